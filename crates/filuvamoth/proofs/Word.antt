@@ -1,16 +1,15 @@
 -- What the walks share: a struct of one pointer, and the heap beside another type at a call.
 use Rattle.std.proofs.Common.{◌≡◌, true, ◌&&◌, T, List, [], ◌∷◌, Option, Some, None, is_some, refl, sym, true≢false, lit<}
-use seplogic.Ra.Ura.{Ura}
 use mir.Raw.{raw as bare}
 use mir.Syntax.{ty_ptr, tcons, tnil, dnil, impl, Dict}
 use mir.Val.{Val, vstruct, vcons, vnil, has_ty, WT}
-use base.Fml.{Fml, Lft, Share, ftrue, fsep, flft}
+use base.Fml.{Fml, Lft, Share, fsep, flft}
 use base.Logic.{ent, sep, emp}
 use base.Share
-use contract.BorrowLft.{◌⊑◌}
-use contract.Monad.{fact, fact_i}
 use types.Logic.{Logic}
 use types.Kit.{Item, Goal, Step, step, ‵, raw, ◌⊛◌, ◌$◌, ◌∵◌, !, qed, done, move, use0, use1, split, join, fjoin}
+use contract.BorrowLft.{◌⊑◌}
+use contract.Monad.{fact, fact_i}
 use denote.Builtin.{RawPtr}
 use denote.Exit.{no}
 use denote.Laws.{Is}
@@ -24,6 +23,7 @@ use denote.Struct.Struct.{Shape, Struct, Struct-Makes}
 use Rattle.core.proofs.cell.Inside.{Good}
 use Rattle.std_heap.specs.contracts.Global.{the_row as Heap}
 use Rattle.std_heap.proofs.Global.TheLaws as heap
+use seplogic.Ra.Ura.{Ura}
 
 abbrev pub word : Ptr → Val
 word p = vstruct (vcons (ptr_val p) vnil)

@@ -1,5 +1,5 @@
 -- What a call does to the machine behind a handle (own).
-use Rattle.std.specs.Prelude.{◌≡◌, ℕ, ℤ, nat_lt, nat_le, ◌==◌, ◌&&◌, Bool, List, [], Option, None, Some, length, if◌then◌else◌}
+use Rattle.std.specs.Prelude.{◌≡◌, ℕ, ℤ, pos, nat_lt, nat_le, ◌==◌, ◌&&◌, Bool, List, [], Option, None, Some, length, if◌then◌else◌}
 use Rattle.chan_events.specs.Events.{Event}
 use Rattle.chan_events.specs.Replies.{PlainReply}
 use Rattle.chan_events.specs.declared.event.Event.TheVariants as event
@@ -13,12 +13,15 @@ use Rattle.channel_subsystem.specs.declared.keeping.Keeping.TheVariants.{LastEnt
 use Rattle.io_step.specs.declared.by_value.ByValue.{ByValue}
 use Rattle.io_step.specs.declared.by_value.ByValue.TheVariants as given
 use Rattle.io_step.specs.declared.by_value.OtherByValue.{OtherByValue}
-use Rattle.host_machine.specs.Answers.{bad_argument, below}
+use Rattle.channel_config.specs.Setup.{no_setup}
+use Rattle.host_machine.specs.Answers.{bad_argument, below, no_memory}
 use Rattle.host_machine.specs.Given.{Gives, GivesOther}
 use Rattle.host_machine.specs.Hosts.{Performs, SetsUp, Starts, Stays}
+use Rattle.host_machine.specs.Lines as lines
 use Rattle.host_machine.specs.Settings.{set}
 use Rattle.host_machine.specs.Works.{TurnsSubchannel, TurnsUnit}
 use Rattle.host_machine.specs.declared.host_machine.HostMachine.{HostMachine}
+use Rattle.host_machine.specs.declared.host_machine.HostMachine.TheVariants.{SettingUp}
 use Rattle.host_machine.specs.declared.setting_up.HostSetting.{HostSetting}
 
 -- the handle is closed, or open already
@@ -27,6 +30,17 @@ closed = 2
 
 abbrev pub already_open : ℕ
 already_open = 3
+
+-- a closed handle is opened on a machine of which nothing is set up, or there is no memory; an open one stays
+abbrev pub OpensAt : Option HostMachine → ℤ → Option HostMachine → Type 0
+OpensAt None number (Some new) = (number ≡ pos 0) × (new ≡ SettingUp no_setup)
+OpensAt None number None = number ≡ below no_memory
+OpensAt (Some old) number new = Stays (Some old) new number (below already_open)
+
+-- an open handle is closed
+abbrev pub ClosesAt : Option HostMachine → ℤ → Option HostMachine → Type 0
+ClosesAt (Some old) number new = (number ≡ pos 0) × (new ≡ None)
+ClosesAt None number new = Stays None new number (below closed)
 
 -- what is done to a machine where the handle is open; a closed handle stays closed, and so does what is lent to the call
 abbrev pub WhereOpen : (HostMachine → ℤ → HostMachine → Type 0) → Type 0 → Option HostMachine → ℤ → Option HostMachine → Type 0
@@ -119,3 +133,9 @@ sense_numbered kept = if kept == 0 then Dropped else Kept
 
 abbrev pub return_numbered : ℕ → PathReturn
 return_numbered initialized = if initialized == 0 then Available else Initialized
+
+-- a line of a script
+abbrev pub LineAt : List ℕ → Option HostMachine → (bytes keys : List ℕ) → (room : List ℕ) → ℤ → ℕ → Option HostMachine → (after left : List ℕ) → (told : List ℕ) → Type 0
+LineAt line old bytes keys room number count new after left told =
+    WhereOpen (λ before answered now. lines.Performs line before bytes keys room answered count now after left told)
+        (((after ≡ bytes) × (left ≡ keys)) × ((told ≡ room) × (count ≡ 0))) old number new

@@ -14,13 +14,17 @@ use Rattle.host_machine.specs.contracts.host_machine.HostMachine.{the_row}
 abbrev pub heap : Global
 heap = record { memory = record { seal = tt } }
 
+-- what a contract sees of the machine
+abbrev pub Machine : Type 0
+Machine = the_row.Denot
+
 -- a value on the heap, and the right to free its block
 abbrev pub heap_owns : (R : RattleType) → Ptr → R.Denot → Fml
 heap_owns = box_owns (ghosts.dealloc_token heap)
 
-abbrev pub held_owns : Ptr → Option the_row.Denot → Fml
+abbrev pub held_owns : Ptr → Option Machine → Fml
 held_owns at None = ftrue
 held_owns at (Some machine) = heap_owns the_row at machine
 
-abbrev pub held_coded : Coded (Option the_row.Denot)
+abbrev pub held_coded : Coded (Option Machine)
 held_coded = coded_option the_row.coded

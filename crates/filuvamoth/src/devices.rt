@@ -57,8 +57,9 @@ pub extern "C" fn fm_turn_unit(
     }
 }
 
-/// What the device of a unit is asked for now: 1, or 0 where it is asked for nothing. The bytes that are to be absorbed are written
-/// into the room, as far as they fit: 256 are enough. It is no event.
+/// What a unit is to do: 0 nothing, 1 its device is called with this work, 2 a signal waits for it, 3 it has a report that its device is
+/// not needed for, 4 its program is away and may ask for the path `from_path`, 5 for none. The bytes that are to be absorbed are
+/// written into the room, as far as they fit: 256 are enough. It is no event.
 #[unsafe(no_mangle)]
 pub extern "C" fn fm_work(
     alloc: Global,

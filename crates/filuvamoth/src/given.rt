@@ -1,10 +1,10 @@
 //! The I/O instructions with their operand by value, for hosts that translate addresses themselves (SA22-7832, chapter 14). No storage
 //! is lent to them.
 
-ghost use Rattle.filuvamoth.specs.Calls.{ClearsAt, ModifiesAt, StartsAt, StoresAt, TellsAt};
+ghost use Rattle.filuvamoth.specs.Calls.{ClearsAt, ModifiesAt, StartsAt, StoresAt, TellsAt, WhereGood};
 ghost use Rattle.host_machine.specs.Given as given_spec;
 ghost use Rattle.io_step.specs.declared.by_value.OtherByValue.TheVariants as other_spec;
-ghost use Rattle.std.specs.Prelude.{◌≡◌, ◌%◌, length};
+ghost use Rattle.std.specs.Prelude.{◌≡◌, length, nat_le};
 
 use crate::calls::{give, give_bytes, give_words};
 use crate::handle::Handle;
@@ -102,7 +102,7 @@ pub extern "C" fn fm_tsch_irb(
 }
 
 /// TEST PENDING INTERRUPTION, which leaves the three words of an interruption code with code 1. `mask` is the byte of control register
-/// 6, of which hexadecimal 80 is subclass 0; bits above it are ignored.
+/// 6, 0 to 255, of which hexadecimal 80 is subclass 0.
 #[unsafe(no_mangle)]
 pub extern "C" fn fm_tpi_code(
     alloc: Global,
@@ -111,8 +111,12 @@ pub extern "C" fn fm_tpi_code(
     mask: u32,
     code: &mut [u32],
 ) -> i32
-    ensures { TellsAt given_spec.words_told 3 handle.old.held.inside cpu (other_spec.Tpi (mask % 256)) result handle.new.held.inside code.old code.new }
+    ensures { WhereGood (nat_le mask 0xFF) (TellsAt given_spec.words_told 3 handle.old.held.inside cpu (other_spec.Tpi mask) result handle.new.held.inside code.old code.new)
+        (code.new ≡ code.old) handle.old.held.inside result handle.new.held.inside }
 {
+    if mask > 0xFF {
+        return BAD_ARGUMENT;
+    }
     match Cpu::new(cpu) {
         Some(cpu) if code.len() == 3 => {
             let instruction = OtherByValue::Tpi { mask: mask as u8 };

@@ -1,11 +1,12 @@
 //! A handle as C declares it.
 
-ghost use Rattle.std.specs.Prelude.{◌≡◌, Some, None, is_some, MatchOption};
+ghost use Rattle.std.specs.Prelude.{◌≡◌, Some, None, is_some, false, MatchOption};
 
 use crate::held::Held;
 use crate::parts::Parts;
 use host_machine::host_machine::HostMachine;
 use std::alloc::Global;
+use std::marker::Send;
 use std::mem::replace;
 
 /// A machine in the host's memory: sixteen bytes, and all of them zero while it is closed.
@@ -18,8 +19,9 @@ pub struct Handle {
 }
 
 impl Handle {
-    /// Opens the handle on a machine. The handle has to be closed, or what it led to is never freed.
+    /// Opens the handle on a machine. It has to be closed, as what it led to would never be freed.
     pub fn put(&mut self, inside: Box<HostMachine>)
+        requires { is_some self.old.held.inside ≡ false }
         ensures { self.new.held.inside ≡ Some inside.value }
     {
         *self = Handle {
@@ -44,4 +46,11 @@ impl Handle {
             None
         }
     }
+}
+
+fn sent<T: Send>(_value: &T) {}
+
+/// Nothing calls it. It is proved only as a handle may go to another thread, which the host relies on.
+fn handle_is_sent(handle: &Handle) {
+    sent(handle)
 }

@@ -1,8 +1,7 @@
 //! The pointer that C holds, without the type of what it leads to.
 
 ghost use Rattle.std.specs.Prelude.{◌≡◌, Option, Some, None, is_some, true};
-ghost use Rattle.filuvamoth.specs.Held.{held_owns, held_coded};
-ghost use Rattle.host_machine.specs.declared.host_machine.HostMachine.{HostMachine as Machine};
+ghost use Rattle.filuvamoth.specs.Held.{Machine, held_owns, held_coded};
 
 use crate::parts::Parts;
 use host_machine::host_machine::HostMachine;

@@ -4,7 +4,8 @@
 ghost use Rattle.chan_events.specs.declared.event.Event.TheVariants as event_spec;
 ghost use Rattle.chan_events.specs.declared.event.Instruction.TheVariants as instruction_spec;
 ghost use Rattle.chan_events.specs.declared.event.OtherInstruction.TheVariants as other_spec;
-ghost use Rattle.filuvamoth.specs.Calls.{ExecutesAt, TestsAt};
+ghost use Rattle.filuvamoth.specs.Calls.{ExecutesAt, TestsAt, WhereGood};
+ghost use Rattle.std.specs.Prelude.{◌≡◌, ◌==◌, nat_le, not};
 
 use crate::calls::{execute, execute_other};
 use crate::handle::Handle;
@@ -214,4 +215,32 @@ pub extern "C" fn fm_tpi(
         address,
     };
     execute_other(alloc, handle, bytes, keys, cpu, instruction)
+}
+
+/// STORE SUBCHANNEL to real address F00 (hexadecimal); then the interruption subclass, the multipath mode (0 is off) and the enabled bit,
+/// which is one, are placed in the bytes there; then MODIFY SUBCHANNEL from F00. Of `subclass`, 0 to 255, the three rightmost bits are
+/// placed.
+#[unsafe(no_mangle)]
+pub extern "C" fn fm_enable(
+    alloc: Global,
+    handle: &mut Handle,
+    bytes: &mut [u8],
+    keys: &mut [u8],
+    cpu: u32,
+    subchannel: u32,
+    subclass: u32,
+    multipath: u32,
+) -> i32
+    ensures { WhereGood (nat_le subclass 0xFF) (ExecutesAt handle.old.held.inside bytes.old keys.old cpu (event_spec.Execute cpu (instruction_spec.Enable subchannel subclass (not (multipath == 0)))) result handle.new.held.inside bytes.new keys.new)
+        ((bytes.new ≡ bytes.old) × (keys.new ≡ keys.old)) handle.old.held.inside result handle.new.held.inside }
+{
+    if subclass > 0xFF {
+        return BAD_ARGUMENT;
+    }
+    let instruction = Instruction::Enable {
+        subchannel,
+        subclass: subclass as u8,
+        multipath: multipath != 0,
+    };
+    execute(alloc, handle, bytes, keys, cpu, instruction)
 }

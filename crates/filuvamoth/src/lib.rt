@@ -5,9 +5,8 @@
 //! number that is answered is that of its answer; behind a closed handle nothing is done. A handle is used by one call at a time.
 #![tactic(auto)]
 
-ghost use Rattle.std.specs.Prelude.{◌≡◌, None, Some};
-ghost use Rattle.channel_config.specs.Setup.{no_setup};
-ghost use Rattle.host_machine.specs.declared.host_machine.HostMachine.TheVariants as machine_spec;
+ghost use Rattle.std.specs.Prelude.{◌≡◌};
+ghost use Rattle.filuvamoth.specs.Calls.{ClosesAt, OpensAt};
 
 mod calls;
 mod devices;
@@ -16,6 +15,7 @@ mod given;
 mod handle;
 mod held;
 mod instructions;
+mod lines;
 mod looks;
 mod parts;
 mod setting_up;
@@ -37,7 +37,9 @@ pub extern "C" fn fm_version() -> u32
 /// Opens a handle on a machine of which nothing is set up. It is refused where the handle is open already, and where there is no
 /// memory; then the handle stays as it was.
 #[unsafe(no_mangle)]
-pub extern "C" fn fm_new(alloc: Global, handle: &mut Handle) -> i32 {
+pub extern "C" fn fm_new(alloc: Global, handle: &mut Handle) -> i32
+    ensures { OpensAt handle.old.held.inside result handle.new.held.inside }
+{
     if handle.open {
         return ALREADY_OPEN;
     }
@@ -53,7 +55,7 @@ pub extern "C" fn fm_new(alloc: Global, handle: &mut Handle) -> i32 {
 /// Closes a handle, and frees all that its machine has.
 #[unsafe(no_mangle)]
 pub extern "C" fn fm_free(alloc: Global, handle: &mut Handle) -> i32
-    ensures { handle.new.held.inside ≡ None }
+    ensures { ClosesAt handle.old.held.inside result handle.new.held.inside }
 {
     match handle.take(alloc) {
         None => CLOSED,

@@ -1,20 +1,18 @@
 -- A channel subsystem as a host has it that has numbers, bytes and their lengths alone (own): first it is set up, then it runs.
 use Rattle.std.specs.Prelude.{◌≡◌, ℕ, ℤ, pos, ◌*◌, ◌==◌, ◌&&◌, ◌||◌, Bool, IsTrue, List, [], ◌∷◌, length, replicate, Option, Some, None, Result, Ok, Err}
 use Rattle.storage_keys.specs.Storage.{Contents, are_areas, cleared_storage, lent_contents}
-use Rattle.chan_model.specs.declared.fault.Fault.{Fault}
 use Rattle.chan_events.specs.Events.{Event}
-use Rattle.chan_events.specs.declared.reply.Entry.{Entry}
 use Rattle.chan_events.specs.Replies.{Reply}
 use Rattle.channel_config.specs.declared.config.ConfigRule.{ConfigRule}
 use Rattle.channel_config.specs.Lawful.{hosted}
 use Rattle.channel_config.specs.Setup.{Setup}
 use Rattle.channel_subsystem.specs.Hosting.{Hosted, IsHostSize, IsHostStep, Leads}
 use Rattle.channel_subsystem.specs.declared.host_fault.HostFault.{HostFault}
+use Rattle.channel_subsystem.specs.declared.host_fault.HostFault.TheVariants as host_fault
 use Rattle.channel_subsystem.specs.declared.keeping.Keeping.{Keeping}
 use Rattle.machine_model.specs.Setups.{IsSetUp}
 use Rattle.machine_model.specs.State.{lent}
 use Rattle.path_select.specs.Choice.{TakesNext}
-use Rattle.subsystem.specs.Keeping.{answer_of}
 use Rattle.host_machine.specs.Machines.{Running}
 use Rattle.host_machine.specs.Answers.{answer_number, at_other_stage, bad_argument, below, config_size, no_memory, other_size, rule_size}
 use Rattle.host_machine.specs.declared.host_machine.HostMachine.{HostMachine}
@@ -36,19 +34,20 @@ is_lent r bytes keys = (bytes == 4096 * r.subsystem.blocks) && ((keys == 0) || (
 abbrev pub Stays : {A : Type 0} → (old new : A) → (number expected : ℤ) → Type 0
 Stays old new number expected = (number ≡ expected) × (new ≡ old)
 
--- a machine that runs enters an event on what storage holds at the call, and answers by the number of what is replied; where storage
--- is of another size nothing is changed
-abbrev pub EntersLent : Bool → Running → (bytes keys : List ℕ) → Event → ℤ → Running → (after left : List ℕ) → Type 0
-EntersLent Bool.true old bytes keys e number new after left =
-    (answer : Result Reply HostFault) × (number ≡ answer_number answer) × IsHostStep TakesNext old.subsystem (storage_at old bytes keys) e answer new.subsystem (storage_at new after left)
-EntersLent Bool.false old bytes keys e number new after left = Stays old new number (below other_size) × ((after ≡ bytes) × (left ≡ keys))
+-- a machine that runs enters an event on what storage holds at the call: it steps or refuses; where storage is of another size nothing
+-- is changed
+abbrev pub AnswersLent : Bool → Running → (bytes keys : List ℕ) → Event → Result Reply HostFault → Running → (after left : List ℕ) → Type 0
+AnswersLent Bool.true old bytes keys e answer new after left =
+    IsHostStep TakesNext old.subsystem (storage_at old bytes keys) e answer new.subsystem (storage_at new after left)
+AnswersLent Bool.false old bytes keys e answer new after left = (answer ≡ Err host_fault.OtherSize) × ((new ≡ old) × ((after ≡ bytes) × (left ≡ keys)))
 
--- the number of what was answered to an event that was just entered
-abbrev pub number_after : Result (Unit {0}) HostFault → List Entry → ℤ
-number_after outcome kept = answer_number (answer_of outcome kept)
+abbrev pub Answers : Running → (bytes keys : List ℕ) → Event → Result Reply HostFault → Running → (after left : List ℕ) → Type 0
+Answers old bytes keys e answer new after left = AnswersLent (is_lent old (length bytes) (length keys)) old bytes keys e answer new after left
 
+-- the same, answered by its number
 abbrev pub Enters : Running → (bytes keys : List ℕ) → Event → ℤ → Running → (after left : List ℕ) → Type 0
-Enters old bytes keys e number new after left = EntersLent (is_lent old (length bytes) (length keys)) old bytes keys e number new after left
+Enters old bytes keys e number new after left =
+    (answer : Result Reply HostFault) × (number ≡ answer_number answer) × Answers old bytes keys e answer new after left
 
 -- what a machine does where it runs; one that is set up stays as it is, and so does what is lent to the call
 abbrev pub WhereItRuns : (Running → ℤ → Running → Type 0) → Type 0 → HostMachine → ℤ → HostMachine → Type 0

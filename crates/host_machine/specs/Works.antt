@@ -57,8 +57,14 @@ abbrev pub call_of_work : Work → HostWork
 call_of_work (work.Call side number command sequence c) = with_call (work_at number command sequence side) c
 call_of_work (work.Report report) = no_work
 
+-- a program that is away names the path that it may ask for
+abbrev pub work_away : Option ℕ → HostWork
+work_away None = no_work
+work_away (Some path) = record no_work { from_path = path }
+
 abbrev pub host_work : Option UnitTurn → HostWork
 host_work (Some (unit_turn.Works w)) = call_of_work w
+host_work (Some (unit_turn.Away path)) = work_away path
 host_work other = no_work
 
 abbrev pub bytes_of_call : Call → List ℕ
@@ -73,16 +79,21 @@ abbrev pub host_bytes : Option UnitTurn → List ℕ
 host_bytes (Some (unit_turn.Works w)) = bytes_of_work w
 host_bytes other = []
 
--- 1 where the device is to be called, 0 where it is not; refused where there is no such unit
+-- what the unit is to do: 0 nothing, 1 its device is to be called, 2 a signal waits for it, 3 it has a report that its device is not
+-- needed for, 4 its program is away and may ask for a path, 5 for none; refused where there is no such unit
 abbrev pub call_number : Work → ℤ
 call_number (work.Call side number command sequence c) = pos 1
-call_number (work.Report report) = pos 0
+call_number (work.Report report) = pos 3
+
+abbrev pub away_number : Option ℕ → ℤ
+away_number None = pos 5
+away_number (Some path) = pos 4
 
 abbrev pub work_number : Option UnitTurn → ℤ
 work_number None = below (fault_size fault.NoSuchUnit)
 work_number (Some (unit_turn.Works w)) = call_number w
-work_number (Some (unit_turn.Takes id path)) = pos 0
-work_number (Some (unit_turn.Away path)) = pos 0
+work_number (Some (unit_turn.Takes id path)) = pos 2
+work_number (Some (unit_turn.Away path)) = away_number path
 work_number (Some unit_turn.Rests) = pos 0
 
 -- what the host is told of it

@@ -9,6 +9,7 @@
 pub mod answers;
 mod given;
 pub mod host_machine;
+pub mod lines;
 mod looking;
 pub mod running;
 pub mod seen;

@@ -4,14 +4,15 @@ ghost use Rattle.std.specs.Prelude.{◌≡◌, ◌*◌, IfErr, IfOk, length};
 ghost use Rattle.channel_subsystem.specs.GivenSteps.{IsGivenStep, IsOtherGivenStep};
 ghost use Rattle.channel_subsystem.specs.Hosting.{IsHostStep};
 ghost use Rattle.host_machine.specs.Hosts as spec;
-ghost use Rattle.host_machine.specs.Hosts.{Enters, IsStarted};
+ghost use Rattle.host_machine.specs.Answers.{answer_number};
+ghost use Rattle.host_machine.specs.Hosts.{Answers, Enters, IsStarted};
 ghost use Rattle.path_select.specs.Choice.{TakesNext};
 ghost use Rattle.storage_keys.specs.Storage.{lent_contents};
 ghost use Rattle.subsystem.specs.Keeping.{answer_of};
 
-use crate::answers::{OTHER_SIZE, refusal_number, reply_number};
+use crate::answers::{refusal_number, reply_number};
 use chan_events::event::Event;
-use chan_events::reply::PlainReply;
+use chan_events::reply::{PlainReply, Reply};
 use chan_model::names::Cpu;
 use channel_config::config::Config;
 use channel_subsystem::host_fault::HostFault;
@@ -116,9 +117,29 @@ impl Running {
         self.subsystem.perform(&mut storage, event)
     }
 
+    /// One event on what storage holds now. Keys are lent for all blocks, or for none: then those of the machine count. `OtherSize`
+    /// where there are not as many bytes as the machine was started with, or some keys, but not one for each block.
+    pub fn perform(
+        &mut self,
+        bytes: &mut [u8],
+        keys: &mut [u8],
+        event: &Event,
+    ) -> Result<(), HostFault>
+        ensures { Answers self.old bytes.old keys.old event.now (answer_of result self.new.subsystem.kept) self.new bytes.new keys.new }
+    {
+        if !self.is_lent(bytes.len(), keys.len()) {
+            return Err(HostFault::OtherSize);
+        }
+        if keys.is_empty() {
+            self.enter_alone(bytes, event)
+        } else {
+            self.enter_with_keys(bytes, keys, event)
+        }
+    }
+
     /// The number of what an event answers that was just entered.
     fn number_of(&self, outcome: Result<(), HostFault>) -> i32
-        ensures { result ≡ spec.number_after outcome self.now.subsystem.kept }
+        ensures { result ≡ answer_number (answer_of outcome self.now.subsystem.kept) }
     {
         match outcome {
             Err(fault) => refusal_number(fault),
@@ -129,22 +150,25 @@ impl Running {
         }
     }
 
-    /// One event on what storage holds now, and the number of its answer. Keys are lent for all blocks, or for none: then those of
-    /// the machine count. `OTHER_SIZE` where there are not as many bytes as the machine was started with, or some keys, but not one
-    /// for each block.
+    /// The same event, and the number of its answer.
     pub fn enter(&mut self, bytes: &mut [u8], keys: &mut [u8], event: &Event) -> i32
         ensures { Enters self.old bytes.old keys.old event.now result self.new bytes.new keys.new }
     {
-        if !self.is_lent(bytes.len(), keys.len()) {
-            return OTHER_SIZE;
-        }
-        let outcome = if keys.is_empty() {
-            self.enter_alone(bytes, event)
-        } else {
-            self.enter_with_keys(bytes, keys, event)
-        };
+        let outcome = self.perform(bytes, keys, event);
         self.number_of(outcome)
     }
+
+    /// What an event answers that was just entered, with its own bytes.
+    pub fn answer(&self, outcome: Result<(), HostFault>) -> Result<Reply, HostFault>
+        ensures { result ≡ answer_of outcome self.now.subsystem.kept }
+    {
+        outcome?;
+        match self.subsystem.last_reply() {
+            Some(reply) => Ok(reply.own()),
+            None => Ok(Reply::Done),
+        }
+    }
+
     /// An instruction on a subchannel, with its operand by value, as `ChannelSubsystem::execute_by_value` has it.
     pub fn execute_by_value(
         &mut self,

@@ -33,6 +33,7 @@ pub struct HostWork {
     pub code: u32,
     /// The side, and the index of its path, by which the command came, of an initial status.
     pub from_side: u32,
+    /// Where a program is away: the index of the path that it may ask for.
     pub from_path: u32,
     /// How many bytes are to be absorbed, or the most that may be supplied: 1 to 256.
     pub count: u32,
@@ -108,7 +109,7 @@ fn side_number(side: Side) -> u32
 }
 
 /// The side of a number.
-fn side_numbered(number: u32) -> Option<Side>
+pub fn side_numbered(number: u32) -> Option<Side>
     ensures { result ≡ spec.side_numbered number }
 {
     match number {
@@ -179,7 +180,7 @@ fn tell_work(told: &LentWork<'_>, work: &mut HostWork, room: &mut [u8]) -> i32
         }
         Work::Report(_) => {
             *work = HostWork::none();
-            0
+            3
         }
     }
 }
@@ -194,22 +195,48 @@ fn bytes_of<'a>(call: &LentCall<'a>) -> &'a [u8]
     }
 }
 
+/// The path that a program may ask for which is away.
+fn tell_away(path: Option<u32>, work: &mut HostWork) -> i32
+    ensures number { result ≡ spec.away_number path }
+    ensures work { work.new ≡ spec.work_away path }
+{
+    match path {
+        Some(path) => {
+            *work = HostWork {
+                from_path: path,
+                ..HostWork::none()
+            };
+            4
+        }
+        None => {
+            *work = HostWork::none();
+            5
+        }
+    }
+}
+
+/// Nothing is asked for.
+fn tell_nothing(number: i32, work: &mut HostWork) -> i32
+    ensures number { result ≡ number }
+    ensures work { work.new ≡ spec.no_work }
+{
+    *work = HostWork::none();
+    number
+}
+
 impl Running {
-    /// What the device of a unit is asked for now: 1, or 0 where it is asked for nothing. The bytes that are to be absorbed are
-    /// written into the room, as far as they fit: 256 are enough.
+    /// What a unit is to do: 0 nothing, 1 its device is called with this work, 2 a signal waits for it, 3 it has a report that its
+    /// device is not needed for, 4 its program is away and may ask for the path `from_path`, 5 for none. The bytes that are to be
+    /// absorbed are written into the room, as far as they fit: 256 are enough.
     pub fn work(&self, unit: u32, work: &mut HostWork, room: &mut [u8]) -> i32
         ensures { spec.Asks (unit_turn_of self.now.subsystem.machine «unit») result work.new room.old room.new }
     {
         match self.subsystem().lent_turn(unit) {
             Some(UnitTurn::Works(told)) => tell_work(&told, work, room),
-            None => {
-                *work = HostWork::none();
-                NO_SUCH_UNIT
-            }
-            Some(UnitTurn::Takes { .. } | UnitTurn::Away { .. } | UnitTurn::Rests) => {
-                *work = HostWork::none();
-                0
-            }
+            Some(UnitTurn::Away { path }) => tell_away(path, work),
+            Some(UnitTurn::Takes { .. }) => tell_nothing(2, work),
+            Some(UnitTurn::Rests) => tell_nothing(0, work),
+            None => tell_nothing(NO_SUCH_UNIT, work),
         }
     }
 }

@@ -11,7 +11,7 @@ mod kept;
 pub mod lines;
 mod pieces;
 mod readable;
-mod text;
+pub mod text;
 
 use crate::draft::draft_of;
 use crate::lines::Lines;

@@ -1,10 +1,8 @@
 //! Instructions with their operand by value, since a guest's operands stand at logical addresses, which its host alone can translate.
 
-ghost use Rattle.std.specs.Prelude.{◌≡◌, ◌≢◌, Err, true};
-ghost use Rattle.channel_subsystem.specs.GivenSteps.{IsGivenStep, IsOtherGivenStep};
+ghost use Rattle.std.specs.Prelude.{◌≡◌, ◌≢◌, ℕ, Err, true};
+ghost use Rattle.channel_subsystem.specs.GivenSteps.{HasRoomSomewhere, IsGivenStep, IsOtherGivenStep, IsSomewhere};
 ghost use Rattle.channel_subsystem.specs.declared.host_fault.HostFault.TheVariants as fault_spec;
-ghost use Rattle.io_step.specs.GivenOperands.{HasOperand, HasRoom, storage_with};
-ghost use Rattle.storage_keys.specs.Storage.{cleared_storage};
 
 use super::ChannelSubsystem;
 use crate::host_fault::HostFault;
@@ -31,7 +29,7 @@ impl<P: PathChoice + Drop> ChannelSubsystem<P> {
         instruction: &ByValue,
     ) -> Result<Answered, HostFault>
         ensures stepped { IsGivenStep P.picks self.old cpu subchannel instruction.now result self.new }
-        ensures somewhere { HasOperand instruction.now (storage_with instruction.now self.old.blocks) cpu 0 }
+        ensures somewhere { IsSomewhere instruction.now self.old.blocks cpu }
     {
         self.execute_by_value_with(
             &mut Allocator { refused: false },
@@ -50,7 +48,7 @@ impl<P: PathChoice + Drop> ChannelSubsystem<P> {
         instruction: &ByValue,
     ) -> Result<Answered, HostFault>
         ensures stepped { IsGivenStep P.picks self.old cpu subchannel instruction.now result self.new }
-        ensures somewhere { HasOperand instruction.now (storage_with instruction.now self.old.blocks) cpu 0 }
+        ensures somewhere { IsSomewhere instruction.now self.old.blocks cpu }
         ensures unrefused { result ≢ Err fault_spec.NoMemory → S.refused supply.new ≡ S.refused supply.old }
         ensures memory { result ≡ Err fault_spec.NoMemory → S.refused supply.new ≡ true }
     {
@@ -58,7 +56,7 @@ impl<P: PathChoice + Drop> ChannelSubsystem<P> {
         setups();
         steps();
         codes();
-        instruction.is_somewhere();
+        self.has_operand_somewhere(instruction);
         make_way(self.keeping, &mut self.log);
         if let Err(fault) = make_room(supply, self.count, &mut self.log) {
             return Err(fault);
@@ -89,7 +87,7 @@ impl<P: PathChoice + Drop> ChannelSubsystem<P> {
         instruction: OtherByValue,
     ) -> Result<PlainReply, HostFault>
         ensures stepped { IsOtherGivenStep P.picks self.old cpu instruction result self.new }
-        ensures somewhere { HasRoom instruction (cleared_storage self.old.blocks) cpu 0 }
+        ensures somewhere { HasRoomSomewhere instruction self.old.blocks cpu }
     {
         self.execute_other_by_value_with(&mut Allocator { refused: false }, cpu, instruction)
     }
@@ -102,7 +100,7 @@ impl<P: PathChoice + Drop> ChannelSubsystem<P> {
         instruction: OtherByValue,
     ) -> Result<PlainReply, HostFault>
         ensures stepped { IsOtherGivenStep P.picks self.old cpu instruction result self.new }
-        ensures somewhere { HasRoom instruction (cleared_storage self.old.blocks) cpu 0 }
+        ensures somewhere { HasRoomSomewhere instruction self.old.blocks cpu }
         ensures unrefused { result ≢ Err fault_spec.NoMemory → S.refused supply.new ≡ S.refused supply.old }
         ensures memory { result ≡ Err fault_spec.NoMemory → S.refused supply.new ≡ true }
     {
@@ -110,7 +108,7 @@ impl<P: PathChoice + Drop> ChannelSubsystem<P> {
         setups();
         steps();
         codes();
-        instruction.is_somewhere();
+        self.has_room_somewhere(instruction);
         make_way(self.keeping, &mut self.log);
         if let Err(fault) = make_room(supply, self.count, &mut self.log) {
             return Err(fault);
@@ -124,5 +122,21 @@ impl<P: PathChoice + Drop> ChannelSubsystem<P> {
         );
         self.count += 1;
         Ok(reply)
+    }
+
+    /// There is storage of its size that has the operand of an instruction.
+    fn has_operand_somewhere(&self, instruction: &ByValue)
+        ensures { (cpu : ℕ) → IsSomewhere instruction.now self.now.blocks cpu }
+    {
+        let _ = &self.log;
+        instruction.is_somewhere();
+    }
+
+    /// There is storage of its size that has room for what an instruction stores.
+    fn has_room_somewhere(&self, instruction: OtherByValue)
+        ensures { (cpu : ℕ) → HasRoomSomewhere instruction self.now.blocks cpu }
+    {
+        let _ = &self.log;
+        instruction.is_somewhere();
     }
 }

@@ -2,7 +2,7 @@ use Rattle.std.proofs.Common.{refl, sym, ◌≡◌, ◌∙◌, ap, subst, arith,
 use Rattle.storage_keys.specs.Storage.{Contents}
 use Rattle.chan_events.specs.declared.reply.Entry.{Entry}
 use Rattle.chan_events.specs.Replies.{reply_of}
-use Rattle.channel_subsystem.specs.GivenSteps.{IsGivenStep, given_event}
+use Rattle.channel_subsystem.specs.GivenSteps.{IsGivenStep, IsSomewhere, given_event}
 use Rattle.channel_subsystem.specs.Hosting.{Hosted}
 use Rattle.channel_subsystem.specs.declared.host_fault.HostFault.TheVariants as fault
 use Rattle.event_log.specs.Logs.{Logged}
@@ -38,7 +38,7 @@ invariant_of-self-in-Ok g c =
       count = refl;
     } in
     let host = c.self.invariant.1.1.1.1 in (
-      given-led c.setups.ensures.set_up old new c.args.cpu c.args.subchannel i answered host (c.is_somewhere.ensures c.self.inside.blocks c.args.cpu host.0)
+      given-led c.setups.ensures.set_up old new c.args.cpu c.args.subchannel i answered host (subst (λ (s : Hosted). IsSomewhere i s.blocks c.args.cpu) (sym c.self.view_is) (c.has_operand_somewhere.ensures c.args.cpu)).operand
           c.in-Ok.ensures.performs adds c.self.invariant.0,
       (c.in-Ok.ensures.fits, (c.in-Ok.ensures.fresh, (omega (arith, ap (λ (h : List Entry). length h) c.in-Ok.ensures.entry, length-append c.make_room.new.log.entries (entry ∷ [])), host))),
     )
@@ -76,3 +76,12 @@ returns-in-Err-keep_by_value-clause-stepped g c =
     (sym refusal.ensures.kept)
     (given-unmoved c.setups.ensures.set_up g.P.PathChoice.picks old c.args.self.now log.entries log.room c.args.cpu c.args.subchannel i (fault.Refused refusal.fault) c.self.view_is
     still more (λ before there. (refusal.ensures.performs before there).0))
+
+pub returns-in-Err-clause-somewhere : goal.returns-in-Err-clause-somewhere
+returns-in-Err-clause-somewhere g c = c.has_operand_somewhere.ensures c.args.cpu
+
+pub returns-in-Ok-clause-somewhere : goal.returns-in-Ok-clause-somewhere
+returns-in-Ok-clause-somewhere g c = c.has_operand_somewhere.ensures c.args.cpu
+
+pub returns-in-Err-keep_by_value-clause-somewhere : goal.returns-in-Err-keep_by_value-clause-somewhere
+returns-in-Err-keep_by_value-clause-somewhere g c = c.has_operand_somewhere.ensures c.args.cpu

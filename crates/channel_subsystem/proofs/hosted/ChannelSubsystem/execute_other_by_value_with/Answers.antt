@@ -2,7 +2,7 @@ use Rattle.std.proofs.Common.{refl, sym, ◌≡◌, ◌∙◌, ap, subst, arith,
 use Rattle.storage_keys.specs.Storage.{Contents}
 use Rattle.chan_events.specs.declared.reply.Entry.{Entry}
 use Rattle.chan_events.specs.Replies.{reply_of}
-use Rattle.channel_subsystem.specs.GivenSteps.{IsOtherGivenStep, other_event}
+use Rattle.channel_subsystem.specs.GivenSteps.{HasRoomSomewhere, IsOtherGivenStep, other_event}
 use Rattle.channel_subsystem.specs.Hosting.{Hosted}
 use Rattle.channel_subsystem.specs.declared.host_fault.HostFault.TheVariants as fault
 use Rattle.event_log.specs.Logs.{Logged}
@@ -36,7 +36,7 @@ invariant_of-self-2 g c =
       count = refl;
     } in
     let host = c.self.invariant.1.1.1.1 in (
-      other-led c.setups.ensures.set_up old new c.args.cpu c.args.instruction plain host (c.is_somewhere.ensures c.self.inside.blocks c.args.cpu host.0)
+      other-led c.setups.ensures.set_up old new c.args.cpu c.args.instruction plain host (subst (λ (s : Hosted). HasRoomSomewhere c.args.instruction s.blocks c.args.cpu) (sym c.self.view_is) (c.has_room_somewhere.ensures c.args.cpu)).room
           c.keep_other_by_value-reply.ensures.performs adds c.self.invariant.0,
       (c.keep_other_by_value-reply.ensures.fits, (c.keep_other_by_value-reply.ensures.fresh, (omega (arith, ap (λ (h : List Entry). length h) c.keep_other_by_value-reply.ensures.entry, length-append c.make_room.new.log.entries (entry ∷ [])), host))),
     )

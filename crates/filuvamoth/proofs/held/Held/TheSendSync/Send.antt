@@ -11,10 +11,10 @@ use Rattle.std.proofs.Crossing as crossing
 use Rattle.std_alloc.proofs.SendSync.{quiet, lies}
 use Rattle.host_machine.specs.contracts.host_machine.HostMachine.{the_row as R}
 use Rattle.host_machine.proofs.host_machine.HostMachine.TheSendSync.{the_send as machine}
-use Rattle.filuvamoth.specs.Held.{heap, held_owns}
+use Rattle.filuvamoth.specs.Held.{Machine, heap, held_owns}
 use Rattle.filuvamoth.specs.contracts.held.Held.{the_row, the_type}
 
-owned : (p : Ptr) (o : Option R.Denot) → Keyless (held_owns p o)
+owned : (p : Ptr) (o : Option Machine) → Keyless (held_owns p o)
 owned p None = tt
 owned p (Some x) = (lies R machine p x, crossing.frees.frees heap (raw (lone R.mir)) p)
 

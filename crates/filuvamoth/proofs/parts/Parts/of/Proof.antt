@@ -1,20 +1,21 @@
 -- `of` has the box's pointer from `into_raw`, with what the box owned.
-use Rattle.std.proofs.Common.{List, [], ◌++◌, ◌∷◌, refl, sym, ap, subst}
+use Rattle.std.proofs.Common.{List, [], ◌++◌, ◌∷◌, refl, ap}
 use mir.Syntax.{a_type, dcons, dnil}
 use mir.MapTy.{inst_fn}
+use mir.Val.{Val}
 use base.Share
-use base.Logic.{id⊢}
+use base.Logic.{id⊢, emp}
 use base.Fml.{ftrue, fsep, flft}
 use prog.Wp.{WpFn}
-use types.Kit.{‵, raw, ◌⊛◌, some, later, ◌$◌, ◌∵◌, !, qed, done, move, drop, keep, use1, use2, split, split3, join, fsplit, fjoin, feq_l, pick, await, suffices}
+use types.Kit.{‵, raw, ◌⊛◌, some, later, ◌$◌, ◌∵◌, !, qed, done, move, drop, keep, use1, use2, split, split3, join, fjoin, feq_l, pick, await, suffices, prop, regoal, rewrite}
 use types.Run.{enter, of_opd, no_more, and_then, returns}
 use types.Part.{agg}
 use types.ByLocal.{alloc_all, pass_all, free_all, look_at, get, sets, lands_as}
 use contract.BorrowLft.{◌⊑◌}
 use contract.Monad.{fact}
+use contract.Running.{tables}
 use denote.Exit.{no}
-use denote.Param.{layout, param, arg, bounded}
-use mir.Raw.{raw as bare}
+use denote.Param.{layout, param, bounded}
 use denote.Builtin.{RawPtr}
 use denote.RawPtr.{Ptr}
 use denote.Signature.{plain}
@@ -22,6 +23,10 @@ use denote.Steps.{nothing, only}
 use denote.Triple.Call.{calls_at}
 use denote.Triple.Spec.{triple_of}
 use denote.Triple.Walked.{Stays, stay_dropped, says, ends_at, walk_of}
+use denote.Param.NoDrop.{glues}
+use denote.Param.Laws.{param_laws}
+use denote.RattleType.{RattleType}
+use denote.Triple.Clauses.{Lasts, lasts}
 use Rattle.core.proofs.alloc.Calls.{Goes-blank}
 use Rattle.core.proofs.atomic.Steps.{fm}
 use Rattle.core.proofs.cell.Inside.{one}
@@ -30,23 +35,12 @@ use Rattle.std_heap.specs.contracts.Global.{the_row as Heap}
 use Rattle.std_heap.specs.contracts.GlobalAllocator.TheImpl.{ghosts, dict}
 use Rattle.std_heap.proofs.Global.TheLaws as heap
 use Rattle.std_heap.proofs.GlobalAllocator.TheImpl.Met as allocator
-use denote.Param.NoDrop.{glues}
-use denote.Param.Laws.{Laws, param_laws, arg_laws}
-use denote.RattleType.{RattleType}
-use denote.Triple.Clauses.{Lasts, lasts}
-use contract.Monad.{fact_i}
-use contract.Running.{tables}
-use base.Logic.{emp, SProp}
-use mir.Syntax.{impl, tcons, tnil, Dict}
-use mir.Val.{Val}
-use types.Kit.{prop, regoal, rewrite, use0}
 use Rattle.std_alloc.specs.contracts.boxed.Box as Box
 use Rattle.std_alloc.proofs.boxed.Box.TheLaws as box
 use Rattle.std_alloc.specs.contracts.boxed.Box.into_raw as G
 use Rattle.std_alloc.proofs.boxed.Box.into_raw.Met.{met}
 use Rattle.filuvamoth.specs.Held.{heap_owns}
 use Rattle.filuvamoth.proofs.Word.{word, fits, word_fits, wraps, halves, lives, Z, LZ, drops}
-use Rattle.filuvamoth.specs.contracts.parts.Parts as Parts
 use Rattle.filuvamoth.specs.contracts.parts.Parts.of as F
 use Rattle.filuvamoth.proofs.parts.Parts.of.Statement.{statement}
 use Rattle.filuvamoth.proofs.parts.Parts.of.Code as code

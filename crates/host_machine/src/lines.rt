@@ -1,0 +1,178 @@
+//! A line of a script, performed and answered as text.
+
+ghost use Rattle.std.specs.Prelude.{◌≡◌, IfOk, map};
+ghost use Rattle.host_machine.specs.Answers.{answer_number, below};
+ghost use Rattle.host_machine.specs.Lines as spec;
+ghost use Rattle.host_machine.specs.Lines.{PerformsEvent, PerformsLine, Tells};
+ghost use Rattle.streams.specs.Sinks.{Puts};
+
+use crate::answers::{AT_OTHER_STAGE, NO_MEMORY, refusal_number, reply_number};
+use crate::given::write_first;
+use crate::host_machine::HostMachine;
+use crate::running::Running;
+use chan_events::event::Event;
+use chan_events::reply::Reply;
+use channel_subsystem::host_fault::HostFault;
+use memory::Allocator;
+use script::text::TextLine;
+use script_rows::actions::action_row;
+use script_rows::slots::{ActionSlot, KeptAction};
+use script_rows::words::LineRule;
+use script_text::held::Held;
+use script_text::{put_refusal, put_reply};
+use std::alloc::{AllocError, Global};
+use streams::Sink;
+
+/// What is told of a line: the number of its answer, and how many bytes of its text were written.
+#[derive(Clone, Copy)]
+pub struct ToldLine {
+    pub number: i32,
+    pub written: usize,
+}
+
+/// The number of a rule that a line breaks.
+pub fn line_number(rule: LineRule) -> i32
+    ensures { result ≡ below (spec.line_size rule) }
+{
+    match rule {
+        LineRule::UnknownWord => -0x301,
+        LineRule::WrongCount => -0x302,
+        LineRule::BadWord => -0x303,
+        LineRule::SettingAfterAction => -0x304,
+        LineRule::BreaksConfiguration => -0x305,
+        LineRule::StorageNotFirst => -0x306,
+        LineRule::MisplacedRace => -0x307,
+    }
+}
+
+/// The words of the first line of a text.
+fn words_of(alloc: Global, text: &[u8]) -> Result<Vec<&[u8]>, AllocError>
+    ensures { IfOk result (λ words. map (λ w. w.now) words.items ≡ spec.words_of text.now) }
+{
+    let mut words = Vec::new(alloc);
+    TextLine::first(text).words_to(&mut Allocator { refused: false }, &mut words)?;
+    Ok(words)
+}
+
+/// The event that the words of a line ask for.
+fn event_of(words: &[&[u8]]) -> Result<Event, LineRule>
+    ensures { result ≡ spec.event_of_words (map (λ w. w.now) words.now) }
+{
+    let [first, others @ ..] = words else {
+        return Err(LineRule::UnknownWord);
+    };
+    let mut slot = ActionSlot::new();
+    if !action_row(&mut slot, first, others)? {
+        return Err(LineRule::UnknownWord);
+    }
+    match &slot.kept {
+        KeptAction::Event(event) => Ok(event.own(slot.bytes())),
+        KeptAction::Dev(_) | KeptAction::Glance(_) => Err(LineRule::UnknownWord),
+    }
+}
+
+/// What is printed of an answer.
+fn put_answer<S: Sink>(sink: &mut S, answer: &Result<Reply, HostFault>) -> bool
+    ensures { Puts (S.seen sink.old) (spec.answer_text answer.now) (S.seen sink.new) result }
+{
+    match answer {
+        Ok(reply) => put_reply(sink, reply),
+        Err(HostFault::Refused(fault)) => put_refusal(sink, fault),
+        Err(HostFault::OtherSize) => sink.put(b"other size"),
+        Err(HostFault::NumbersUsedUp) => sink.put(b"no number"),
+        Err(HostFault::NoMemory) => sink.put(b"no memory"),
+    }
+}
+
+/// Writes what is printed of an answer into a room, as far as it fits: how many bytes were written.
+fn tell(answer: &Result<Reply, HostFault>, room: &mut [u8]) -> usize
+    ensures { Tells (spec.answer_text answer.now) room.old room.new result }
+{
+    let mut held = Held::new();
+    if !put_answer(&mut held, answer) {
+        return 0;
+    }
+    write_first(held.bytes(), room);
+    held.bytes().len().min(room.len())
+}
+
+/// The number of an answer.
+fn number_of(answer: &Result<Reply, HostFault>) -> i32
+    ensures { result ≡ answer_number answer.now }
+{
+    match answer {
+        Ok(reply) => reply_number(reply),
+        Err(fault) => refusal_number(*fault),
+    }
+}
+
+impl Running {
+    /// Enters the event that a line asked for, where it asked for one.
+    fn perform_asked(
+        &mut self,
+        bytes: &mut [u8],
+        keys: &mut [u8],
+        asked: Result<Event, LineRule>,
+        room: &mut [u8],
+    ) -> ToldLine
+        ensures { PerformsEvent asked self.old bytes.old keys.old room.old result.number result.written self.new bytes.new keys.new room.new }
+    {
+        match asked {
+            Err(rule) => ToldLine {
+                number: line_number(rule),
+                written: 0,
+            },
+            Ok(event) => {
+                let outcome = self.perform(bytes, keys, &event);
+                let answer = self.answer(outcome);
+                ToldLine {
+                    number: number_of(&answer),
+                    written: tell(&answer, room),
+                }
+            }
+        }
+    }
+
+    /// Performs the first line of a text, which is one of a script that asks for an event, and writes what a script's run prints of it
+    /// behind the number of its line, as far as there is room.
+    pub fn perform_line(
+        &mut self,
+        alloc: Global,
+        bytes: &mut [u8],
+        keys: &mut [u8],
+        line: &[u8],
+        room: &mut [u8],
+    ) -> ToldLine
+        ensures { PerformsLine line.now self.old bytes.old keys.old room.old result.number result.written self.new bytes.new keys.new room.new }
+    {
+        match words_of(alloc, line) {
+            Err(_) => ToldLine {
+                number: NO_MEMORY,
+                written: 0,
+            },
+            Ok(words) => self.perform_asked(bytes, keys, event_of(words.as_slice()), room),
+        }
+    }
+}
+
+impl HostMachine {
+    /// Performs the first line of a text, as `Running::perform_line` has it; `AT_OTHER_STAGE` where the machine does not run yet.
+    pub fn perform_line(
+        &mut self,
+        alloc: Global,
+        bytes: &mut [u8],
+        keys: &mut [u8],
+        line: &[u8],
+        room: &mut [u8],
+    ) -> ToldLine
+        ensures { spec.Performs line.now self.old bytes.old keys.old room.old result.number result.written self.new bytes.new keys.new room.new }
+    {
+        match self {
+            HostMachine::SettingUp(_) => ToldLine {
+                number: AT_OTHER_STAGE,
+                written: 0,
+            },
+            HostMachine::Runs(running) => running.perform_line(alloc, bytes, keys, line, room),
+        }
+    }
+}
