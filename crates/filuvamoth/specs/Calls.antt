@@ -116,9 +116,7 @@ LooksAt shows nothing old number new = WhereOpen (λ before answered now. (now �
 
 -- the set-up ends: which entries are kept is said by a number
 abbrev pub keeping_numbered : ℕ → Option Keeping
-keeping_numbered 0 = Some LastEntry
-keeping_numbered 1 = Some AllEntries
-keeping_numbered other = None
+keeping_numbered number = if number == 0 then Some LastEntry else (if number == 1 then Some AllEntries else None)
 
 abbrev pub BeginsBy : Option Keeping → Option HostMachine → (blocks : ℕ) → ℤ → Option HostMachine → Type 0
 BeginsBy None old blocks number new = Stays old new number (below bad_argument)

@@ -1,7 +1,7 @@
 //! Looks: no event, and nothing changes.
 
 ghost use Rattle.filuvamoth.specs.Calls.{LooksAt, WhereGood};
-ghost use Rattle.host_machine.specs.Looks.{AreRequests, Shows, ShowsBlock, ShowsSerials};
+ghost use Rattle.host_machine.specs.Looks.{AreRequests, SeesLast, Shows, ShowsBlock, ShowsSerials};
 ghost use Rattle.host_machine.specs.Looks as spec;
 ghost use Rattle.machine_model.specs.State.{serials_in, sub_of};
 ghost use Rattle.std.specs.Prelude.{◌≡◌, length, nat_le, pos};
@@ -30,7 +30,7 @@ pub extern "C" fn fm_requests(alloc: Global, handle: &mut Handle) -> i32
 /// How many channel reports wait, at most 16.
 #[unsafe(no_mangle)]
 pub extern "C" fn fm_report_count(alloc: Global, handle: &mut Handle) -> i32
-    ensures { LooksAt (λ machine number. Shows (λ r answered. answered ≡ pos (length r.subsystem.machine.reports.reports)) (Unit {0}) machine number) (Unit {0}) handle.old.held.inside result handle.new.held.inside }
+    ensures { LooksAt (λ machine number. Shows (λ r answered. answered ≡ pos (spec.at_most 16 (length r.subsystem.machine.reports.reports))) (Unit {0}) machine number) (Unit {0}) handle.old.held.inside result handle.new.held.inside }
 {
     match handle.take(alloc) {
         None => CLOSED,
@@ -118,7 +118,7 @@ pub extern "C" fn fm_path(alloc: Global, handle: &mut Handle, chpid: u32) -> i32
 /// What the last accepted event answered beyond its number; where that was refused and no history is kept, nothing.
 #[unsafe(no_mangle)]
 pub extern "C" fn fm_seen(alloc: Global, handle: &mut Handle, seen: &mut HostSeen) -> i32
-    ensures { LooksAt (λ machine number. Shows (λ r answered. (answered ≡ pos 0) × (seen.new ≡ spec.last_seen r.subsystem.kept)) (seen.new ≡ seen.old) machine number)
+    ensures { LooksAt (λ machine number. Shows (λ r answered. (answered ≡ pos 0) × SeesLast r.subsystem.kept seen.new) (seen.new ≡ seen.old) machine number)
         (seen.new ≡ seen.old) handle.old.held.inside result handle.new.held.inside }
 {
     match handle.take(alloc) {

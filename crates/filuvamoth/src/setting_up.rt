@@ -40,7 +40,7 @@ pub extern "C" fn fm_add_unit(alloc: Global, handle: &mut Handle, number: u32) -
 /// These units share a control unit: one of them is served at a time.
 #[unsafe(no_mangle)]
 pub extern "C" fn fm_share(alloc: Global, handle: &mut Handle, units: &[u32]) -> i32
-    ensures { SetsUpAt handle.old.held.inside (setting.Share units) result handle.new.held.inside }
+    ensures { SetsUpAt handle.old.held.inside (setting.Share units.entry) result handle.new.held.inside }
 {
     set_up(alloc, handle, &HostSetting::Share(units))
 }
@@ -56,7 +56,7 @@ pub extern "C" fn fm_add_subchannel(
     unit: u32,
     chpids: &[u32],
 ) -> i32
-    ensures { SetsUpAt handle.old.held.inside (setting.Subchannel word device «unit» chpids) result handle.new.held.inside }
+    ensures { SetsUpAt handle.old.held.inside (setting.Subchannel word device «unit» chpids.entry) result handle.new.held.inside }
 {
     let setting = HostSetting::Subchannel {
         word,

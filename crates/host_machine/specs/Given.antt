@@ -31,11 +31,11 @@ block_left (Err f) = []
 -- a machine that runs performs it: the step that it is on each storage that has the operand
 pub record IsGiven (old : Running) (cpu word : ℕ) (i : ByValue) (number : ℤ) (new : Running) (room left : List ℕ) : Type 0 where
   pub answer : Result Answered HostFault
-  pub number : number ≡ answer_number (given_reply answer)
+  pub numbered : number ≡ answer_number (given_reply answer)
   pub stepped : IsGivenStep TakesNext old.subsystem cpu word i answer new.subsystem
   pub keys : new.keys ≡ old.keys
   pub prefixes : new.prefixes ≡ old.prefixes
-  pub left : left ≡ written (block_left answer) room
+  pub block : left ≡ written (block_left answer) room
 
 abbrev pub Gives : HostMachine → (cpu word : ℕ) → ByValue → ℤ → HostMachine → (room left : List ℕ) → Type 0
 Gives old cpu word i number new room left = WhereItRuns (λ before answered now. IsGiven before cpu word i answered now room left) (left ≡ room) old number new
@@ -59,11 +59,11 @@ told_by told (Err f) = []
 -- the same of an instruction that names no subchannel
 pub record IsOtherGiven {A : Type 0} (told : PlainReply → List A) (old : Running) (cpu : ℕ) (i : OtherByValue) (number : ℤ) (new : Running) (room left : List A) : Type 0 where
   pub answer : Result PlainReply HostFault
-  pub number : number ≡ answer_number answer
+  pub numbered : number ≡ answer_number answer
   pub stepped : IsOtherGivenStep TakesNext old.subsystem cpu i answer new.subsystem
   pub keys : new.keys ≡ old.keys
   pub prefixes : new.prefixes ≡ old.prefixes
-  pub left : left ≡ written (told_by told answer) room
+  pub told_items : left ≡ written (told_by told answer) room
 
 abbrev pub GivesOther : {A : Type 0} → (PlainReply → List A) → HostMachine → (cpu : ℕ) → OtherByValue → ℤ → HostMachine → (room left : List A) → Type 0
 GivesOther told old cpu i number new room left = WhereItRuns (λ before answered now. IsOtherGiven told before cpu i answered now room left) (left ≡ room) old number new

@@ -1,5 +1,5 @@
 -- A channel subsystem as a host has it that has numbers, bytes and their lengths alone (own): first it is set up, then it runs.
-use Rattle.std.specs.Prelude.{◌≡◌, ℕ, ℤ, pos, ◌*◌, ◌==◌, ◌&&◌, ◌||◌, Bool, IsTrue, List, [], ◌∷◌, length, replicate, Option, Some, None, Result, Ok, Err}
+use Rattle.std.specs.Prelude.{◌≡◌, ◌⊎◌, ℕ, ℤ, pos, ◌*◌, ◌==◌, ◌&&◌, ◌||◌, Bool, IsTrue, List, [], ◌∷◌, length, replicate, Option, Some, None, Result, Ok, Err}
 use Rattle.storage_keys.specs.Storage.{Contents, are_areas, cleared_storage, lent_contents}
 use Rattle.chan_events.specs.Events.{Event}
 use Rattle.chan_events.specs.Replies.{Reply}
@@ -73,8 +73,8 @@ SetsUp (Runs running) made number new = Stays (Runs running) new number (below a
 pub record IsStarted (setup : Setup) (blocks : ℕ) (keeping : Keeping) (r : Running) : Type 0 where
   pub leads : Leads [] r.subsystem (cleared_storage blocks)
   pub set_up : IsSetUp (hosted setup blocks) (lent r.subsystem.machine (cleared_storage blocks))
-  pub blocks : r.subsystem.blocks ≡ blocks
-  pub keeping : r.subsystem.keeping ≡ keeping
+  pub of_size : r.subsystem.blocks ≡ blocks
+  pub keeps : r.subsystem.keeping ≡ keeping
   pub keys : r.keys ≡ replicate blocks 0
   pub prefixes : r.prefixes ≡ replicate 16 0
 

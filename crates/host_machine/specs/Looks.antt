@@ -1,5 +1,5 @@
 -- Looks at a machine, in numbers and bytes: nothing changes (own).
-use Rattle.std.specs.Prelude.{◌≡◌, ℕ, ℤ, pos, ◌+◌, ◌*◌, ◌==◌, ◌<◌, Bool, List, [], ◌∷◌, false, length, map, option_map, slice_index_or, Option, Some, None, if◌then◌else◌}
+use Rattle.std.specs.Prelude.{◌≡◌, ◌⊎◌, ℕ, ℤ, pos, ◌+◌, ◌*◌, ◌==◌, ◌<◌, Bool, List, [], ◌∷◌, false, length, map, nat_lt, option_map, slice_index_or, Option, Some, None, if◌then◌else◌}
 use Rattle.zbits.specs.Bits.{bit_of}
 use Rattle.zbits.specs.Layout.{image_of, word_of}
 use Rattle.chan_model.specs.ConditionCodes.{code_of}
@@ -36,6 +36,10 @@ Shows seen nothing (SettingUp setup) number = (number ≡ below at_other_stage) 
 -- the interruption subclasses of which a request waits: bit n of these eight is subclass n
 abbrev pub AreRequests : State → ℤ → Type 0
 AreRequests s number = (mask : ℕ) × (number ≡ pos mask) × ((subclass : ℕ) → subclass < 8 → (bit_of mask (24 + subclass) == 1) ≡ has_request s.requests subclass)
+
+-- a count, of which the most stands for all above
+abbrev pub at_most : (most count : ℕ) → ℕ
+at_most most count = if nat_lt most count then most else count
 
 -- the block of a subchannel as it would be stored
 abbrev pub schib_at : State → ℕ → Option (List ℕ)
@@ -96,9 +100,9 @@ seen_of reply.Idle = of_kind 13
 seen_of (reply.Up signal taken sent) = of_kind 14
 seen_of (reply.Down signal taken sent) = of_kind 15
 
-abbrev pub last_seen : List Entry → HostSeen
-last_seen [] = nothing_seen
-last_seen (e ∷ entries) = seen_of (last_reply (e ∷ entries))
+-- of the entry that is kept last, or nothing where none is
+abbrev pub SeesLast : List Entry → HostSeen → Type 0
+SeesLast kept seen = (seen ≡ seen_of (last_reply kept)) ⊎ ((kept ≡ []) × (seen ≡ nothing_seen))
 
 -- the serials of a subchannel
 abbrev pub ShowsSerials : Option Serials → ℤ → (made cleared : ℕ) → (made' cleared' : ℕ) → Type 0

@@ -1,5 +1,6 @@
 -- What the device of a unit is asked for and answers, in numbers and bytes, and what a turn of a unit and of a subchannel is for (own).
-use Rattle.std.specs.Prelude.{◌≡◌, ℕ, ℤ, pos, negsuc, ◌==◌, nat_le, not, List, [], ◌∷◌, length, option_or, Option, Some, None, if◌then◌else◌}
+use Rattle.std.specs.Prelude.{◌≡◌, ℕ, ℤ, pos, negsuc, ◌==◌, nat_le, not, List, [], ◌∷◌, length, Option, Some, None, if◌then◌else◌}
+use Rattle.std.specs.Option.{option_or}
 use Rattle.chan_model.specs.declared.fault.Fault.TheVariants as fault
 use Rattle.chan_model.specs.Reports.{Call, DeviceAnswer, Work}
 use Rattle.chan_model.specs.declared.names.Side.{Side}
@@ -32,9 +33,7 @@ side_number First = 0
 side_number Second = 1
 
 abbrev pub side_numbered : ℕ → Option Side
-side_numbered 0 = Some First
-side_numbered 1 = Some Second
-side_numbered other = None
+side_numbered number = if number == 0 then Some First else (if number == 1 then Some Second else None)
 
 -- The call of a device, in numbers: kind 0 none, 1 the initial status of a command, 2 to absorb bytes, 3 to supply bytes, 4 the final
 -- status
@@ -112,20 +111,14 @@ supplied bytes = if nat_le (length bytes) 256 then Some (answer.Supplied bytes) 
 abbrev pub ended : HostAnswer → Option DeviceAnswer
 ended a = if nat_le a.status 0xFF then Some (answer.Ended (record { 0 = a.status }) (not (a.more == 0))) else None
 
-abbrev pub answer_by_kind : ℕ → HostAnswer → List ℕ → Option DeviceAnswer
-answer_by_kind 1 a bytes = Some answer.Begins
-answer_by_kind 2 a bytes = absorbed a.count
-answer_by_kind 3 a bytes = supplied bytes
-answer_by_kind 4 a bytes = ended a
-answer_by_kind other a bytes = None
-
 abbrev pub device_answer : HostAnswer → List ℕ → Option DeviceAnswer
-device_answer a bytes = answer_by_kind a.kind a bytes
+device_answer a bytes =
+    if a.kind == 1 then Some answer.Begins else (if a.kind == 2 then absorbed a.count else (if a.kind == 3 then supplied bytes else (if a.kind == 4 then ended a else None)))
 
 -- the event that hands it in, of the command and the chunk of the call
 abbrev pub report_with : ℕ → HostWork → Option Side → Option DeviceAnswer → Option Event
 report_with at w (Some side) (Some a) = Some (event.Report at (record { side = side; answer = a; number = w.number; command = w.command; sequence = w.sequence }))
-report_with at w other none = None
+report_with at w other missing = None
 
 abbrev pub report_event : ℕ → HostWork → HostAnswer → List ℕ → Option Event
 report_event at w a bytes = report_with at w (side_numbered w.side) (device_answer a bytes)

@@ -2,7 +2,7 @@
 
 ghost use Rattle.std.specs.Prelude.{◌≡◌, pos, length};
 ghost use Rattle.host_machine.specs.Looks as spec;
-ghost use Rattle.host_machine.specs.Looks.{AreRequests, Shows, ShowsBlock, ShowsSerials};
+ghost use Rattle.host_machine.specs.Looks.{AreRequests, SeesLast, Shows, ShowsBlock, ShowsSerials};
 ghost use Rattle.host_machine.specs.Works as works;
 ghost use Rattle.machine_model.specs.State.{serials_in, sub_of, unit_turn_of};
 
@@ -30,7 +30,7 @@ fn show_block<const BYTES: usize>(block: &Option<[u8; BYTES]>, room: &mut [u8]) 
 impl Running {
     /// What the last accepted event answered; nothing where the last event was refused and no other is kept.
     fn seen(&self) -> HostSeen
-        ensures { result ≡ spec.last_seen self.now.subsystem.kept }
+        ensures { SeesLast self.now.subsystem.kept result }
     {
         match self.subsystem().last_reply() {
             Some(reply) => HostSeen::of(reply.parts().0),
@@ -52,11 +52,11 @@ impl HostMachine {
 
     /// How many channel reports wait, at most 16.
     pub fn report_count(&self) -> i32
-        ensures { Shows (λ r number. number ≡ pos (length r.subsystem.machine.reports.reports)) Unit self.now result }
+        ensures { Shows (λ r number. number ≡ pos (spec.at_most 16 (length r.subsystem.machine.reports.reports))) Unit self.now result }
     {
         match self {
             HostMachine::SettingUp(_) => AT_OTHER_STAGE,
-            HostMachine::Runs(running) => running.subsystem().report_count() as i32,
+            HostMachine::Runs(running) => at_most_16(running.subsystem().report_count()),
         }
     }
 
@@ -114,7 +114,7 @@ impl HostMachine {
 
     /// What the last accepted event answered.
     pub fn seen(&self, seen: &mut HostSeen) -> i32
-        ensures { Shows (λ r number. (number ≡ pos 0) × (seen.new ≡ spec.last_seen r.subsystem.kept)) (seen.new ≡ seen.old) self.now result }
+        ensures { Shows (λ r number. (number ≡ pos 0) × SeesLast r.subsystem.kept seen.new) (seen.new ≡ seen.old) self.now result }
     {
         match self {
             HostMachine::SettingUp(_) => AT_OTHER_STAGE,
@@ -134,6 +134,13 @@ impl HostMachine {
             HostMachine::Runs(running) => running.work(unit, work, room),
         }
     }
+}
+
+/// A count, of which 16 stand for all above.
+fn at_most_16(count: usize) -> i32
+    ensures { result ≡ pos (spec.at_most 16 count) }
+{
+    if count > 16 { 16 } else { count as i32 }
 }
 
 /// The number of a channel path.

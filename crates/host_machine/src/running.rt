@@ -1,13 +1,13 @@
 //! A machine that runs: the channel subsystem, with what of storage its host need not have.
 
-ghost use Rattle.std.specs.Prelude.{◌≡◌, ◌*◌, IfErr, IfOk, length};
+ghost use Rattle.std.specs.Prelude.{◌≡◌, ◌*◌, IfErr, IfOk, IsTrue, length};
 ghost use Rattle.channel_subsystem.specs.GivenSteps.{IsGivenStep, IsOtherGivenStep};
 ghost use Rattle.channel_subsystem.specs.Hosting.{IsHostStep};
 ghost use Rattle.host_machine.specs.Hosts as spec;
 ghost use Rattle.host_machine.specs.Answers.{answer_number};
 ghost use Rattle.host_machine.specs.Hosts.{Answers, Enters, IsStarted};
 ghost use Rattle.path_select.specs.Choice.{TakesNext};
-ghost use Rattle.storage_keys.specs.Storage.{lent_contents};
+ghost use Rattle.storage_keys.specs.Storage.{are_areas, lent_contents, may_be_lent};
 ghost use Rattle.subsystem.specs.Keeping.{answer_of};
 
 use crate::answers::{refusal_number, reply_number};
@@ -48,6 +48,23 @@ impl Model for Running {
 
     ghost invariant = { λ r.
         IsHostSize r.subsystem.blocks × ((length r.keys.items ≡ r.subsystem.blocks) × IsTrue (are_areas (4096 * r.subsystem.blocks) r.prefixes)) };
+}
+
+/// An event on storage that is lent.
+fn enter_lent(
+    subsystem: &mut ChannelSubsystem<Rotating>,
+    bytes: &mut [u8],
+    keys: &mut [u8],
+    prefixes: &mut [u32],
+    event: &Event,
+) -> Result<(), HostFault>
+    requires { IsTrue (may_be_lent (length bytes.old) (length keys.old) prefixes.old) }
+    ensures stepped { IsHostStep TakesNext subsystem.old (lent_contents bytes.old keys.old prefixes.old) event.now
+        (answer_of result subsystem.new.kept) subsystem.new (lent_contents bytes.new keys.new prefixes.new) }
+    ensures areas { IsTrue (are_areas (length bytes.new) prefixes.new) }
+{
+    let mut storage = LentStorage::new(bytes, keys, prefixes);
+    subsystem.perform(&mut storage, event)
 }
 
 impl Running {
@@ -103,8 +120,7 @@ impl Running {
             (answer_of result self.new.subsystem.kept) self.new.subsystem (lent_contents bytes.new keys.new self.new.prefixes) }
         ensures keys { self.new.keys ≡ self.old.keys }
     {
-        let mut storage = LentStorage::new(bytes, keys, &mut self.prefixes);
-        self.subsystem.perform(&mut storage, event)
+        enter_lent(&mut self.subsystem, bytes, keys, &mut self.prefixes, event)
     }
 
     /// An event on storage of its size, whose keys the machine has.
@@ -113,8 +129,13 @@ impl Running {
         ensures stepped { IsHostStep TakesNext self.old.subsystem (lent_contents bytes.old self.old.keys self.old.prefixes) event.now
             (answer_of result self.new.subsystem.kept) self.new.subsystem (lent_contents bytes.new self.new.keys self.new.prefixes) }
     {
-        let mut storage = LentStorage::new(bytes, self.keys.as_mut_slice(), &mut self.prefixes);
-        self.subsystem.perform(&mut storage, event)
+        enter_lent(
+            &mut self.subsystem,
+            bytes,
+            self.keys.as_mut_slice(),
+            &mut self.prefixes,
+            event,
+        )
     }
 
     /// One event on what storage holds now. Keys are lent for all blocks, or for none: then those of the machine count. `OtherSize`

@@ -57,9 +57,12 @@ impl Running {
     fn due_on(&self, subchannel: u32, chpids: &[u8]) -> Option<Event>
         ensures { result ≡ spec.due_on self.now.subsystem.machine subchannel chpids.now }
     {
-        chpids
-            .iter()
-            .find_map(|chpid| self.subsystem().path_turn(subchannel, *chpid))
+        for chpid in chpids {
+            if let Some(event) = self.subsystem().path_turn(subchannel, *chpid) {
+                return Some(event);
+            }
+        }
+        None
     }
 
     /// What is due for a subchannel.
