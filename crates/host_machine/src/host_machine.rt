@@ -40,6 +40,7 @@ impl HostMachine {
             HostMachine::Runs(running) => running.enter(bytes, keys, event),
         }
     }
+
     /// A turn of a unit, as `Running::turn_unit` has it; `AT_OTHER_STAGE` where the machine does not run yet.
     pub fn turn_unit(&mut self, bytes: &mut [u8], keys: &mut [u8], unit: u32) -> i32
         ensures { TurnsUnit self.old bytes.old keys.old «unit» result self.new bytes.new keys.new }
@@ -65,29 +66,22 @@ impl HostMachine {
     pub fn start(&mut self, alloc: Global, blocks: u32, keeping: Keeping) -> i32
         ensures { Starts self.old blocks keeping result self.new }
     {
-        match replace(self, HostMachine::new(alloc)) {
-            HostMachine::SettingUp(config) => {
-                let (machine, number) = started(alloc, config, blocks, keeping);
-                *self = machine;
-                number
-            }
-            HostMachine::Runs(running) => {
+        let HostMachine::SettingUp(config) = self else {
+            return AT_OTHER_STAGE;
+        };
+        if blocks < 16 || blocks > 524_288 {
+            return BAD_ARGUMENT;
+        }
+        let given = replace(config, Config::new(alloc));
+        match Running::new(alloc, given, blocks, keeping) {
+            Ok(running) => {
                 *self = HostMachine::Runs(running);
-                AT_OTHER_STAGE
+                0
+            }
+            Err(given) => {
+                *self = HostMachine::SettingUp(given);
+                NO_MEMORY
             }
         }
-    }
-}
-
-/// The machine of a set-up that is to run, and the number of what that came to.
-fn started(alloc: Global, config: Config, blocks: u32, keeping: Keeping) -> (HostMachine, i32)
-    ensures { Starts (variant.SettingUp config) blocks keeping result.1 result.0 }
-{
-    if blocks < 16 || blocks > 524_288 {
-        return (HostMachine::SettingUp(config), BAD_ARGUMENT);
-    }
-    match Running::new(alloc, config, blocks, keeping) {
-        Ok(running) => (HostMachine::Runs(running), 0),
-        Err(config) => (HostMachine::SettingUp(config), NO_MEMORY),
     }
 }

@@ -70,6 +70,7 @@ fn enter_lent(
 impl Running {
     /// The machine that is set up so, for storage of so many blocks of 4,096 bytes, with keys and prefixes of zero. The set-up is handed
     /// back where there is no memory, or the blocks are not 16 to 524,288.
+    #[inline(never)]
     pub fn new(
         alloc: Global,
         config: Config,
