@@ -347,18 +347,19 @@ class Device:
 # ---- A machine ----------------------------------------------------------------------------------------------------------------------
 
 _CALL = struct.Struct("=QQQIIIIII")
-_CALL_HEAD = 24
-_CALL_TAIL = struct.Struct("=IIIIII")
 _ANSWER = struct.Struct("=IIII")
 _TOLD = struct.Struct("=QQQIIIIIxxxx")
-_WORDS = struct.Struct("=III")
 _TEXT_ROOM = 1200
 _CHUNK = 256
-_U32 = 0xFFFFFFFF
 
+# Arguments are made once, in the form in which ctypes passes them on at once.
 _byref = ctypes.byref
-_SIZES = [ctypes.c_size_t(size) for size in range(_CHUNK + 1)]
-_NOTHING = ctypes.c_void_p(1)
+_size = ctypes.c_size_t.from_param
+_SIZES = [_size(count) for count in range(_CHUNK + 1)]
+_NOTHING = ctypes.c_void_p.from_param(1)
+_BEGINS = _ANSWER.pack(1, 0, 0, 0)
+_ABSORBED = [_ANSWER.pack(2, 0, count, 0) for count in range(_CHUNK + 1)]
+_SUPPLIED = _ANSWER.pack(3, 0, 0, 0)
 
 
 class _Handle(ctypes.Structure):
@@ -367,14 +368,25 @@ class _Handle(ctypes.Structure):
 
 def _word(number: int) -> int:
     """A number of 32 bits: ctypes would cut others without a word."""
-    if 0 <= number <= _U32:
-        return number
-    raise ValueError(f"{number} has not 32 bits")
+    if number >> 32:
+        raise ValueError(f"{number} has not 32 bits")
+    return number
 
 
-def _words(numbers: Sequence[int]) -> Tuple[Any, ctypes.c_size_t]:
+def _words(numbers: Sequence[int]) -> Tuple[Any, Any]:
     """Numbers as two arguments."""
-    return (ctypes.c_uint32 * max(1, len(numbers)))(*map(_word, numbers)), ctypes.c_size_t(len(numbers))
+    return (ctypes.c_uint32 * max(1, len(numbers)))(*map(_word, numbers)), _size(len(numbers))
+
+
+@functools.lru_cache(maxsize=None)
+def _ended(status: int, more: bool) -> bytes:
+    """The answer that a command ended so."""
+    return _ANSWER.pack(4, status, 0, more)
+
+
+def _absorbed(count: int) -> bytes:
+    """The answer that so many bytes were taken."""
+    return _ABSORBED[count] if 0 <= count <= _CHUNK else _ANSWER.pack(2, 0, count, 0)
 
 
 def _lent(buffer: Any) -> Any:
@@ -397,43 +409,26 @@ class Machine:
         self._handle = _Handle()
         self._closed = True
         self._library = _library(library)
-        self._machine = _byref(self._handle)
+        self._machine = ctypes.c_void_p.from_param(ctypes.addressof(self._handle))
         self._devices: List[Device] = []
         self._subchannels: List[int] = []
         self._waiting: Dict[int, Tuple[bytes, bytes, bytes]] = {}
-        self._keeps_history = False
-        self._lend(None, None)
         self._make_buffers()
         self._bind_looks()
+        self._lend(None, None)
         self._must(self._library.calls["new"](self._machine))
         self._closed = False
 
     # -- opening and closing
 
-    def _lend(self, storage: Any, keys: Any) -> None:
-        """What each call that names an event is lent."""
-        self._storage = _lent(storage) if storage is not None else None
-        self._keys = _lent(keys) if keys is not None else None
-        lent: Tuple[Any, ...] = (_NOTHING, _SIZES[0]) if self._storage is None else (self._storage, ctypes.c_size_t(len(self._storage)))
-        lent += (_NOTHING, _SIZES[0]) if self._keys is None else (self._keys, ctypes.c_size_t(len(self._keys)))
-        calls = self._library.calls
-        bound = functools.partial
-        self._events: Dict[str, _Call] = {name: bound(calls[name], self._machine, *lent) for name in _EVENTS}
-        self._turn_subchannel = self._events["turn_subchannel"]
-        self._turn_unit = self._events["turn_unit"]
-        self._report = self._events["report"]
-        self._ssch = self._events["ssch"]
-        self._tsch = self._events["tsch"]
-        self._tpi = self._events["tpi"]
-
     def _make_buffers(self) -> None:
         """Buffers that calls fill, made once."""
         self._call = ctypes.create_string_buffer(_CALL.size)
-        self._room = ctypes.create_string_buffer(_CHUNK)
-        self._answer = ctypes.create_string_buffer(_ANSWER.size)
+        self._call_words = memoryview(self._call).cast("B").cast("I")
+        self._room: Any = ctypes.create_string_buffer(_CHUNK)
         self._told = ctypes.create_string_buffer(_TOLD.size)
         self._text = ctypes.create_string_buffer(_TEXT_ROOM)
-        self._block = ctypes.create_string_buffer(64)
+        self._block: Any = ctypes.create_string_buffer(64)
         self._three = (ctypes.c_uint32 * 3)()
         self._one = (ctypes.c_uint32 * 1)()
         self._written = ctypes.c_size_t()
@@ -448,6 +443,26 @@ class Machine:
         self._count_serials = bound(calls["serials"], self._machine)
         self._find_requests = bound(calls["requests"], self._machine)
         self._find_work = bound(calls["work"], self._machine)
+
+    def _lend(self, storage: Any, keys: Any) -> None:
+        """What each call that names an event is lent."""
+        # These keep the buffers where they are as long as their addresses are passed.
+        self._lent = [_lent(buffer) for buffer in (storage, keys) if buffer is not None]
+        addresses = [ctypes.c_void_p.from_param(ctypes.addressof(buffer)) for buffer in self._lent]
+        sizes = [_size(len(buffer)) for buffer in self._lent]
+        pairs = list(zip(addresses, sizes)) + [(_NOTHING, _SIZES[0])] * (2 - len(sizes))
+        lent = [argument for pair in pairs for argument in pair]
+        calls = self._library.calls
+        bound = functools.partial
+        self._events: Dict[str, _Call] = {name: bound(calls[name], self._machine, *lent) for name in _EVENTS}
+        self._ssch = self._events["ssch"]
+        self._tsch = self._events["tsch"]
+        self._tpi = self._events["tpi"]
+        number = ctypes.c_uint32.from_param
+        self._unit_turns = [(unit, bound(self._events["turn_unit"], number(unit))) for unit in range(len(self._devices))]
+        self._subchannel_turns = [bound(self._events["turn_subchannel"], number(word)) for word in self._subchannels]
+        self._works = [bound(self._find_work, number(unit), self._call, self._room, _SIZES[_CHUNK]) for unit, _ in self._unit_turns]
+        self._reports = [bound(self._events["report"], number(unit)) for unit, _ in self._unit_turns]
 
     def close(self) -> None:
         """Closes the machine, and lets the storage go. One that is closed stays so."""
@@ -514,7 +529,7 @@ class Machine:
     def set_up_line(self, line: str, device: Optional[Device] = None) -> None:
         """A configuration line of a script. A line of a unit has its device beside it."""
         data = line.encode("utf-8")
-        self._set("set_up_line", data, ctypes.c_size_t(len(data)))
+        self._set("set_up_line", data, _size(len(data)))
         words = line.split(" ")
         if words[0] == "unit":
             self._devices.append(device if device is not None else Device())
@@ -527,24 +542,23 @@ class Machine:
         size = memoryview(storage).nbytes
         if size % 4096:
             raise ValueError("storage has whole blocks of 4,096 bytes")
+        self._set("start", size // 4096 if blocks is None else _word(blocks), int(history))
         self._lend(storage, keys)
-        try:
-            self._set("start", size // 4096 if blocks is None else blocks, int(history))
-        except FiluvamothError:
-            self._lend(None, None)
-            raise
-        self._keeps_history = history
 
     # -- instructions with the real address of their operand
 
     def ssch(self, subchannel: int, address: int, cpu: int = 0) -> int:
         """START SUBCHANNEL with the ORB at an address: the condition code."""
-        number = self._ssch(cpu, _word(subchannel), _word(address))
+        if (cpu | subchannel | address) >> 32:
+            raise ValueError("a number has not 32 bits")
+        number = self._ssch(cpu, subchannel, address)
         return number if number >= 0 else self._must(number)
 
     def tsch(self, subchannel: int, address: int, cpu: int = 0) -> int:
         """TEST SUBCHANNEL, which stores an IRB at an address with codes 0 and 1: the condition code. :meth:`seen` has the status word."""
-        number = self._tsch(cpu, _word(subchannel), _word(address))
+        if (cpu | subchannel | address) >> 32:
+            raise ValueError("a number has not 32 bits")
+        number = self._tsch(cpu, subchannel, address)
         return number if number >= 0 else self._must(number)
 
     def stsch(self, subchannel: int, address: int, cpu: int = 0) -> int:
@@ -574,7 +588,9 @@ class Machine:
     def tpi(self, mask: int, address: int, cpu: int = 0) -> int:
         """TEST PENDING INTERRUPTION of the subclasses in ``mask`` (0x80 is subclass 0): with code 1 the interruption code is stored at an
         address, or at real 184 where that is 0."""
-        number = self._tpi(cpu, _word(mask), _word(address))
+        if (cpu | mask | address) >> 32:
+            raise ValueError("a number has not 32 bits")
+        number = self._tpi(cpu, mask, address)
         return number if number >= 0 else self._must(number)
 
     def rchp(self, path: int, cpu: int = 0) -> int:
@@ -597,11 +613,11 @@ class Machine:
 
     def ssch_orb(self, subchannel: int, orb: bytes, cpu: int = 0) -> int:
         """START SUBCHANNEL with an ORB of 12 bytes: the condition code."""
-        return self._set("ssch_orb", cpu, _word(subchannel), bytes(orb), ctypes.c_size_t(len(orb)))
+        return self._set("ssch_orb", cpu, _word(subchannel), bytes(orb), _size(len(orb)))
 
     def msch_schib(self, subchannel: int, schib: bytes, cpu: int = 0) -> int:
         """MODIFY SUBCHANNEL with a SCHIB of 52 bytes: the condition code."""
-        return self._set("msch_schib", cpu, _word(subchannel), bytes(schib), ctypes.c_size_t(len(schib)))
+        return self._set("msch_schib", cpu, _word(subchannel), bytes(schib), _size(len(schib)))
 
     def stsch_schib(self, subchannel: int, cpu: int = 0) -> Tuple[int, Optional[bytes]]:
         """STORE SUBCHANNEL: the condition code, and with code 0 the SCHIB of 52 bytes."""
@@ -627,18 +643,18 @@ class Machine:
     def stcps_bytes(self, cpu: int = 0) -> bytes:
         """STORE CHANNEL PATH STATUS: 32 bytes, a bit for each channel path from the left."""
         self._set("stcps_bytes", cpu, self._block, _SIZES[32])
-        return self._block[:32]
+        return bytes(self._block[:32])
 
     # -- turns
 
     def turn_subchannel(self, subchannel: int) -> Turn:
         """A turn of a subchannel: it takes a signal, or the subsystem does what it must for it."""
-        return Turn(self._must(self._turn_subchannel(_word(subchannel))))
+        return Turn(self._event("turn_subchannel", _word(subchannel)))
 
     def turn_unit(self, unit: int) -> Turn:
         """A turn of a unit, without its device: DEVICE_CALLED where that is to be called, by :meth:`serve`, or :meth:`work` and
         :meth:`report`."""
-        return Turn(self._must(self._turn_unit(_word(unit))))
+        return Turn(self._event("turn_unit", _word(unit)))
 
     def choose(self, subchannel: int) -> Choice:
         """The subsystem does what it must for a subchannel."""
@@ -656,29 +672,27 @@ class Machine:
         """Turns units, devices and subchannels, in order and again, until nothing is due or ``most`` turns were done: how many were done.
         ``most`` of them say that more may be due: a program may go on for ever."""
         turns = 0
-        turn_unit, turn_subchannel, serve = self._turn_unit, self._turn_subchannel, self._serve
-        units = range(len(self._devices))
-        subchannels = self._subchannels
+        unit_turns, subchannel_turns, waiting, serve = self._unit_turns, self._subchannel_turns, self._waiting, self._serve
         while True:
             before = turns
-            for unit in units:
-                number = turn_unit(unit)
-                if number == 2 or unit in self._waiting:
+            for unit, turn in unit_turns:
+                number = turn()
+                if number == 2 or waiting and unit in waiting:
                     number = serve(unit)
                 if number > 0:
                     turns += 1
-                elif number < 0 and number != WIRE_FULL:
+                    if turns >= most:
+                        return turns
+                elif number and number != WIRE_FULL:
                     self._must(number)
-                if turns >= most:
-                    return turns
-            for subchannel in subchannels:
-                number = turn_subchannel(subchannel)
+            for turn in subchannel_turns:
+                number = turn()
                 if number > 0:
                     turns += 1
-                elif number < 0 and number != WIRE_FULL:
+                    if turns >= most:
+                        return turns
+                elif number and number != WIRE_FULL:
                     self._must(number)
-                if turns >= most:
-                    return turns
             if turns == before:
                 return turns
 
@@ -687,41 +701,43 @@ class Machine:
     def serve(self, unit: int) -> Turn:
         """The device of a unit is called for what it is asked for, and its answer handed in. One that is refused for want of room on a
         wire waits, and is handed in by a later call. Refused NOT_NOW: the device gave an answer against the law of devices."""
-        return Turn(self._must(self._serve(_word(unit))))
+        if not 0 <= unit < len(self._reports):
+            raise self._library.failure(NO_SUCH_UNIT)
+        return Turn(self._must(self._serve(unit)))
 
     def _serve(self, unit: int) -> int:
         if unit in self._waiting:
             return self._hand_in(unit, *self._waiting[unit])
-        number = self._find_work(unit, self._call, self._room, _SIZES[_CHUNK])
+        number = self._works[unit]()
         if number != 1:
             return number
-        kind, _side, code, from_side, from_path, count = _CALL_TAIL.unpack_from(self._call, _CALL_HEAD)
-        device = self._devices[unit]
-        data = b""
-        if kind == 2:
-            _ANSWER.pack_into(self._answer, 0, 2, 0, device.absorb(self._room[:count]), 0)
-        elif kind == 3:
-            data = device.supply(count)
-            _ANSWER.pack_into(self._answer, 0, 3, 0, 0, 0)
-        elif kind == 1:
-            status = device.initial(code, from_side, from_path)
-            _ANSWER.pack_into(self._answer, 0, 4 if status else 1, status, 0, 0)
-        else:
-            ended = device.finish()
-            status, more = ended if isinstance(ended, tuple) else (ended, False)
-            _ANSWER.pack_into(self._answer, 0, 4, status, 0, more)
-        if len(data) > _CHUNK:
-            raise ValueError("a device gives at most as many bytes as it is asked for")
-        number = self._report(unit, self._call, self._answer, data, _SIZES[len(data)])
+        answer, data = self._answer(self._devices[unit], self._call_words)
+        number = self._reports[unit](self._call, answer, data, _SIZES[len(data)])
         if number >= 0:
             return 1
         if number in (WIRE_FULL, NO_MEMORY):
-            self._waiting[unit] = self._call.raw, self._answer.raw, data
+            self._waiting[unit] = self._call.raw, answer, data
         return number
+
+    def _answer(self, device: Device, call: memoryview) -> Tuple[bytes, bytes]:
+        """Calls a device, of which six words tell what it is asked for: its answer, and the bytes of that."""
+        kind = call[6]
+        if kind == 2:
+            return _absorbed(device.absorb(self._room[: call[11]])), b""
+        if kind == 1:
+            status = device.initial(call[8], call[9], call[10])
+            return _ended(status, False) if status else _BEGINS, b""
+        if kind == 3:
+            data = device.supply(call[11])
+            if len(data) > call[11]:
+                raise ValueError("a device gives at most as many bytes as it is asked for")
+            return _SUPPLIED, data
+        ended = device.finish()
+        return _ended(*ended) if isinstance(ended, tuple) else _ended(ended, False), b""
 
     def _hand_in(self, unit: int, call: bytes, answer: bytes, data: bytes) -> int:
         """Hands in the answer that waits. One that came too late, after a reset say, is dropped."""
-        number = self._report(unit, call, answer, data, _SIZES[len(data)])
+        number = self._reports[unit](call, answer, data, _SIZES[len(data)])
         if number in (WIRE_FULL, NO_MEMORY):
             return number
         del self._waiting[unit]
@@ -741,7 +757,7 @@ class Machine:
         call = _CALL.pack(work.number, work.command, work.sequence, work.kind, work.side, work.code, work.from_side, work.from_path,
                           work.count)
         told = _ANSWER.pack(answer.kind, answer.status, answer.count, answer.more)
-        self._must(self._report(_word(unit), call, told, bytes(answer.data), ctypes.c_size_t(len(answer.data))))
+        self._event("report", _word(unit), call, told, bytes(answer.data), _size(len(answer.data)))
 
     # -- what units do of themselves, channel paths, resets
 
@@ -786,7 +802,7 @@ class Machine:
 
     def put(self, address: int, data: bytes) -> None:
         """1 to 256 bytes are put into storage, by an event: for histories alone, since storage is the program's."""
-        self._event("put", _word(address), bytes(data), ctypes.c_size_t(len(data)))
+        self._event("put", _word(address), bytes(data), _size(len(data)))
 
     def set_key(self, address: int, key: int) -> None:
         """The key of the block in which an address lies is set."""
@@ -809,12 +825,12 @@ class Machine:
     def schib(self, subchannel: int) -> bytes:
         """The SCHIB that STORE SUBCHANNEL would store."""
         self._set("schib", _word(subchannel), self._block, _SIZES[52])
-        return self._block[:52]
+        return bytes(self._block[:52])
 
     def irb(self, subchannel: int) -> bytes:
         """The IRB that TEST SUBCHANNEL would store."""
         self._set("irb", _word(subchannel), self._block, _SIZES[64])
-        return self._block[:64]
+        return bytes(self._block[:64])
 
     def serials(self, subchannel: int) -> Tuple[int, int]:
         """How many statuses a subchannel made, and how many were cleared."""
@@ -837,7 +853,7 @@ class Machine:
         """Performs an event that is written as a line of a script, and answers as ``chsim`` does, also where the event is refused. Refused
         with a rule of lines where it is none."""
         data = line.encode("utf-8")
-        number = self._events["line"](data, ctypes.c_size_t(len(data)), self._text, ctypes.c_size_t(_TEXT_ROOM), _byref(self._written))
+        number = self._events["line"](data, _size(len(data)), self._text, _size(_TEXT_ROOM), _byref(self._written))
         if self._written.value == 0:
             self._must(number)
         return Line(number, self._taken_text())
@@ -854,7 +870,7 @@ class Machine:
         """The event of an entry as a line that :meth:`line` takes, and its reply."""
         texts = []
         for name in ("history_line", "history_reply"):
-            self._set(name, ctypes.c_uint64(index), self._text, ctypes.c_size_t(_TEXT_ROOM), _byref(self._written))
+            self._set(name, ctypes.c_uint64(index), self._text, _size(_TEXT_ROOM), _byref(self._written))
             texts.append(self._taken_text())
         return texts[0], texts[1]
 

@@ -14,7 +14,7 @@ from collections import Counter
 from dataclasses import dataclass, field
 from typing import Callable, Dict, Generator, List, Optional, Tuple
 
-from filuvamoth import CHANNEL_END, DEVICE_END, UNIT_CHECK, Device, Machine
+from filuvamoth import CHANNEL_END, DEVICE_END, UNIT_CHECK, Device, Machine, Turn
 
 SUBCHANNEL = 0x00010000
 PATHS = [0x10, 0x11]
@@ -93,7 +93,8 @@ class Cpu:
     def test(self) -> Tuple[int, Status]:
         """TEST SUBCHANNEL: the condition code and the status word."""
         code = self.machine.tsch(SUBCHANNEL, 0x600)
-        return code, Status(struct.unpack_from(">III", self.storage, 0x600))
+        first, second, third = struct.unpack_from(">III", self.storage, 0x600)
+        return code, Status((first, second, third))
 
     def reports(self) -> List[int]:
         """The channel reports that wait."""
@@ -191,19 +192,23 @@ class Bench:
     def act(self, actor: str) -> Optional[str]:
         """What an actor did; None where nothing was due."""
         if actor == "device":
-            return self.turn_device()
+            return self.call_device()
         verb, _, path = actor.partition(" ")
         number, text = self.machine.line(f"{verb} {SUBCHANNEL:X}" + (f" {path}" if path else ""))
         if number < 0 or text == "idle":
             return None
         return {"down": "unit ", "up": "subchannel ", "choose": ""}[verb] + text + (f" on {path}" if path else "")
 
-    def turn_device(self) -> Optional[str]:
+    def call_device(self) -> Optional[str]:
         work = self.machine.work(self.unit)
-        if work is not None:
-            self.machine.serve(self.unit)
-            return "device " + work.kind.name.lower()
-        return None
+        if work is None:
+            return None
+        self.machine.serve(self.unit)
+        return "device " + work.kind.name.lower()
+
+    def repeat_report(self) -> Optional[str]:
+        """The unit hands in a report that its device is not needed for, where no signal waits for it."""
+        return "unit repeats" if self.machine.turn_unit(self.unit) == Turn.TURNED else None
 
     def turn(self, first: Optional[str]) -> Tuple[Optional[str], str]:
         """One turn: what was done, and by which actor."""
@@ -214,6 +219,8 @@ class Bench:
             return done, first
         for actor in self.actors:
             done = self.act(actor)
+            if done is None and actor == "device":
+                done = self.repeat_report()
             if done is not None:
                 return done, actor
         return None, ""

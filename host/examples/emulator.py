@@ -100,9 +100,9 @@ class Emulator:
     def test(self) -> int:
         """TEST SUBCHANNEL stores its IRB in the guest's storage: the subchannel status of word 2."""
         code = self.machine.tsch(SUBCHANNEL, IRB)
-        words = struct.unpack_from(">III", self.storage, IRB)
-        print("TEST SUBCHANNEL: code %d, %08X %08X %08X" % (code, *words))
-        return words[2] >> 16 & 0xFF
+        first, second, third = struct.unpack_from(">III", self.storage, IRB)
+        print("TEST SUBCHANNEL: code %d, %08X %08X %08X" % (code, first, second, third))
+        return int(third >> 16 & 0xFF)
 
     def load_reports(self) -> None:
         """All channel reports that wait."""
