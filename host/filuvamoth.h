@@ -12,7 +12,8 @@
  *
  * What the host has to see to, since no proof speaks of C:
  *   - A handle is used by one call at a time. It may go from thread to thread; the lock is the host's (fm_machine).
- *   - Pointers are not null, also where the count beside them is 0 (FM_NOTHING), and lead to as many elements as are said.
+ *   - Pointers are not null, also where the count beside them is 0 (FM_NOTHING), are aligned for what they lead to, and lead to as many
+ *     elements as are said.
  *   - What is passed to one call does not overlap, and none of it overlaps the handle.
  *   - Nobody reads or stores into what is lent while the call runs: neither a CPU of the guest nor another thread.
  *   - There are 64 KiB of stack. No call is made from a signal handler, or while another call on the same handle is interrupted.
