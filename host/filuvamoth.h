@@ -12,8 +12,8 @@
  *
  * What the host has to see to, since no proof speaks of C:
  *   - A handle is used by one call at a time. It may go from thread to thread; the lock is the host's (fm_machine).
- *   - Pointers are not null, also where the count beside them is 0 (FM_NOTHING), are aligned for what they lead to, and lead to as many
- *     elements as are said.
+ *   - Each pointer leads to as many elements as are said, and is aligned for them. Where the count beside it is 0 it may be null, else
+ *     it is not; nor are the handle and what is told by a pointer without a count.
  *   - What is passed to one call does not overlap, and none of it overlaps the handle.
  *   - Nobody reads or stores into what is lent while the call runs: neither a CPU of the guest nor another thread.
  *   - There are 64 KiB of stack. No call is made from a signal handler, or while another call on the same handle is interrupted.
@@ -25,7 +25,8 @@
  *   FM_AT_OTHER_STAGE   a setting after fm_start, anything else before it
  *   FM_OTHER_SIZE       an event: storage is not of the size that was started with, or has keys, but not one for each block
  *   FM_NUMBERS_USED_UP  an event: 2^62 - 1 events were accepted
- *   FM_NO_MEMORY        a setting, fm_new, fm_start; an event only where a history is kept
+ *   FM_NO_MEMORY        a setting, fm_new, fm_start, fm_line; another event only where a history is kept
+ * Arguments that the call does not take (FM_BAD_ARGUMENT) are seen first, before the handle.
  * Numbers of bits, bytes and codes are those of SA22-7832; bit 0 is the leftmost.
  */
 #ifndef FILUVAMOTH_H
@@ -67,8 +68,7 @@ enum fm_refusal {
     FM_ADDRESSING = -0x105,
     FM_SPECIFICATION = -0x106,
     FM_OPERAND = -0x115,
-    /* rules of configurations: -0x200 less the number of the rule that is broken */
-    FM_RULE_STORAGE_SIZE = -0x201,          /* a line `storage`: said once, 10 to 1000 blocks (hexadecimal) */
+    /* rules of configurations: -0x200 less the number of the rule that is broken; rule 1 is of scripts alone */
     FM_RULE_CHANNEL_PATH = -0x202,          /* a channel path is given once, by an identifier of at most 255 */
     FM_RULE_UNIT_NUMBER = -0x203,           /* a unit has the next number, of at most 1023 */
     FM_RULE_UNIT_OF_SUBCHANNEL = -0x204,    /* the unit of a subchannel is known, and one other subchannel at most has it */
@@ -76,14 +76,10 @@ enum fm_refusal {
     FM_RULE_SHARED_UNIT = -0x206,           /* units that share are known, each given once and in one group */
     FM_RULE_SUBCHANNEL_NAME = -0x207,       /* the next of its set, of at most 255; the device number at most 65535 */
     FM_RULE_SETS = -0x208,                  /* said once, before any subchannel, 1 to 4 */
-    /* rules of the lines of a script: -0x300 less the number of the rule that is broken */
-    FM_LINE_UNKNOWN_WORD = -0x301,
-    FM_LINE_WRONG_COUNT = -0x302,
-    FM_LINE_BAD_WORD = -0x303,
-    FM_LINE_SETTING_AFTER_ACTION = -0x304,
-    FM_LINE_BREAKS_CONFIGURATION = -0x305,
-    FM_LINE_STORAGE_NOT_FIRST = -0x306,
-    FM_LINE_MISPLACED_RACE = -0x307
+    /* rules of the lines of a script: -0x300 less the number of the rule that is broken; fm_line needs three of them */
+    FM_LINE_UNKNOWN_WORD = -0x301,          /* the first word is of no event */
+    FM_LINE_WRONG_COUNT = -0x302,           /* there are not as many words as there should be */
+    FM_LINE_BAD_WORD = -0x303               /* a number or another word is not what it should be */
 };
 
 /* The code of the program interruption with which the guest's instruction ends; 0 where the number is none. */
@@ -91,10 +87,6 @@ static inline uint32_t fm_program_interruption(int32_t number)
 {
     return number < -0x100 && number >= -0x1FF ? (uint32_t)(-number - 0x100) : 0u;
 }
-
-/* The name of a refusal in ASCII, as "the wire is full", cut at `room`; `*written` says how many bytes, and none ends it.
- * 0; FM_BAD_ARGUMENT where the number is no refusal, and then nothing is written. No handle is needed. */
-int32_t fm_name(int32_t number, uint8_t *text, size_t room, size_t *written);
 
 /* ---- The handle ---------------------------------------------------------------------------------------------------------------- */
 
@@ -140,13 +132,9 @@ int32_t fm_set_concurrent_sense(fm_machine *machine, uint32_t kept);
  * wants. */
 int32_t fm_set_path_return(fm_machine *machine, uint32_t initialized);
 
-/* The same by a line of a script (docs/SCRIPTS.md) without its line feed: `sets`, `path`, `unit`, `share`, `sub`, and `storage`, whose
- * size counts where fm_start is given 0 blocks. The rule that is broken, of lines or of configurations. */
-int32_t fm_set_up_line(fm_machine *machine, const uint8_t *line, size_t length);
-
 enum fm_history {
-    FM_KEEP_NONE = 0,   /* no history: no call after fm_start takes memory */
-    FM_KEEP_ALL = 1     /* each accepted event is kept with its reply until fm_forget */
+    FM_KEEP_NONE = 0,   /* no history: no call after fm_start takes memory but fm_line, for a line's words while it runs */
+    FM_KEEP_ALL = 1     /* each accepted event is kept with its reply, until fm_free. Calls that tell of them are to come. */
 };
 
 /* The machine runs, for storage of so many blocks of 4,096 bytes, 16 to 524,288 (2 GiB), with keys and prefixes of zero. `history` is an
@@ -155,9 +143,10 @@ int32_t fm_start(fm_machine *machine, uint32_t blocks, uint32_t history);
 
 /* ---- Storage that is lent ------------------------------------------------------------------------------------------------------ */
 
-/* The guest's main storage: its bytes by absolute address, and a storage key for each block of 4,096 of them, access-control bits 0 to
- * 3, fetch protection 4. It is lent to a call and the host's again after it. Where no keys are lent (FM_NO_KEYS) those in the machine
- * count, which fm_set_key sets. The prefixes of the 16 CPUs are in the machine, which fm_set_prefix sets. */
+/* The guest's main storage: its bytes by absolute address, and a storage key for each block of 4,096 of them: access-control bits 0 to
+ * 3, fetch protection 4, reference 5, change 6; bit 7 is ignored. The library reads keys, and sets neither reference nor change. Storage
+ * is lent to a call and the host's again after it. Where no keys are lent (FM_NO_KEYS) those in the machine count, which fm_set_key
+ * sets. The prefixes of the 16 CPUs are in the machine, which fm_set_prefix sets. */
 typedef struct fm_storage {
     uint8_t *bytes;
     size_t size;        /* in bytes */
@@ -165,18 +154,11 @@ typedef struct fm_storage {
     size_t blocks;      /* as many as there are keys: one for each block, or 0 */
 } fm_storage;
 
-/* A pointer to nothing, for a count of 0: it is not null, and never followed. */
-#ifdef __cplusplus
-#define FM_NOTHING (reinterpret_cast<uint8_t *>(static_cast<uintptr_t>(1)))
-#else
-#define FM_NOTHING ((uint8_t *)(uintptr_t)1)
-#endif
-
-/* No keys, as the last two members of an fm_storage. Null in their place is taken by FM_LENT too. */
-#define FM_NO_KEYS FM_NOTHING, 0
+/* No keys, as the last two members of an fm_storage. */
+#define FM_NO_KEYS NULL, 0
 
 /* The four arguments that lend a storage, by its address: fm_choose(&machine, FM_LENT(&storage), word). */
-#define FM_LENT(s) (s)->bytes, (s)->size, (s)->blocks != 0 ? (s)->keys : FM_NOTHING, (s)->blocks
+#define FM_LENT(s) (s)->bytes, (s)->size, (s)->keys, (s)->blocks
 
 /* The four parameters that FM_LENT is for. */
 #define FM_STORAGE uint8_t *bytes, size_t size, uint8_t *keys, size_t blocks
@@ -219,15 +201,16 @@ int32_t fm_stcrw(fm_machine *machine, FM_STORAGE, uint32_t cpu, uint32_t address
 /* STORE CHANNEL PATH STATUS, 32 bytes at an address: a bit for each channel path. It sets no condition code: 0. */
 int32_t fm_stcps(fm_machine *machine, FM_STORAGE, uint32_t cpu, uint32_t address);
 
-/* For hosts without a guest that modifies subchannels: STORE SUBCHANNEL to real F00 (hexadecimal), where the interruption subclass (0 to
- * 7), the multipath mode (0 or 1) and the enabled bit are placed, and MODIFY SUBCHANNEL from there, whose code it answers. The 52 bytes
- * of storage at F00 are overwritten. */
+/* For hosts without a guest that modifies subchannels: STORE SUBCHANNEL to real F00 (hexadecimal), where the interruption subclass (the
+ * three rightmost bits of `subclass`; above 255 FM_BAD_ARGUMENT), the multipath mode (0 off, any other number on) and the enabled bit are
+ * placed, and MODIFY SUBCHANNEL from there, whose code it answers. The 52 bytes of storage at F00 are overwritten. */
 int32_t fm_enable(fm_machine *machine, FM_STORAGE, uint32_t cpu, uint32_t subchannel, uint32_t subclass, uint32_t multipath);
 
 /* ---- Instructions with their operand by value, for hosts whose operands stand at logical addresses ----------------------------- */
 
 /* No storage is lent. Before the call the host tests that the operand is on its boundary and may be fetched or stored; after it the host
- * stores what was left. The condition code, or FM_OPERAND. FM_BAD_ARGUMENT where the count is another than the one that is named. */
+ * stores what was left. The condition code, or FM_OPERAND. FM_BAD_ARGUMENT where the count is another than the one that is named, or
+ * `cpu` is above 15. What is not left stays as it was. */
 
 /* START SUBCHANNEL with an ORB: 12 bytes. */
 int32_t fm_ssch_orb(fm_machine *machine, uint32_t cpu, uint32_t subchannel, const uint8_t *orb, size_t count);
@@ -241,7 +224,7 @@ int32_t fm_stsch_schib(fm_machine *machine, uint32_t cpu, uint32_t subchannel, u
 /* TEST SUBCHANNEL, which leaves an IRB with codes 0 and 1: 64 bytes. */
 int32_t fm_tsch_irb(fm_machine *machine, uint32_t cpu, uint32_t subchannel, uint8_t *irb, size_t count);
 
-/* TEST PENDING INTERRUPTION, which leaves the interruption code with code 1: 3 words. Bits of `mask` above 255 are ignored. */
+/* TEST PENDING INTERRUPTION of the subclasses in `mask`, as fm_tpi, which leaves the interruption code with code 1: 3 words. */
 int32_t fm_tpi_code(fm_machine *machine, uint32_t cpu, uint32_t mask, uint32_t *code, size_t count);
 
 /* STORE CHANNEL REPORT WORD: 1 word, a report with code 0, zero with code 1. */
@@ -305,7 +288,7 @@ typedef struct fm_call {
     uint32_t side;          /* of the unit: that of the program's subchannel, 0 or 1 */
     uint32_t code;          /* FM_CALL_INITIAL: the command code */
     uint32_t from_side;     /* FM_CALL_INITIAL: the side by which the command came, */
-    uint32_t from_path;     /* and the index of its path, 0 to 7 */
+    uint32_t from_path;     /* and the index of its path, 0 to 7; of FM_AWAY the index of a path */
     uint32_t count;         /* FM_CALL_ABSORB: how many bytes there are; FM_CALL_SUPPLY: the most that may be given: 1 to 256 */
 } fm_call;
 
@@ -336,14 +319,24 @@ typedef struct fm_answer {
     uint32_t more;          /* FM_ENDED: not 0 where a read was cut short, and the device had more bytes */
 } fm_answer;
 
-/* What the device of a unit is asked for now: 1, or 0 where it is asked for nothing. No event. The bytes of FM_CALL_ABSORB are written
- * to `bytes`, as far as `room` reaches: 256 are enough. FM_NO_SUCH_UNIT. Until fm_report is accepted the same is asked for again. */
+enum fm_due {
+    FM_RESTS = 0,           /* nothing */
+    FM_CALL_DUE = 1,        /* its device is to be called: `call` tells for what */
+    FM_SIGNAL_DUE = 2,      /* a signal waits for it, which fm_turn_unit takes */
+    FM_REPORT_DUE = 3,      /* it has a report that its device is not needed for, which fm_turn_unit hands in */
+    FM_AWAY = 4,            /* its program is away from its path, and may ask for the path `from_path`, by fm_unit_ask */
+    FM_AWAY_WAITS = 5       /* its program is away, and there is no path that it may ask for */
+};
+
+/* What a unit is to do: an fm_due. No event. Of FM_CALL_DUE `call` is the call, and the bytes of FM_CALL_ABSORB are written to `bytes`,
+ * as far as `room` reaches: 256 are enough; until fm_report is accepted the same is asked for again. Else the members of `call` are 0,
+ * but for `from_path` of FM_AWAY. FM_NO_SUCH_UNIT. */
 int32_t fm_work(fm_machine *machine, uint32_t unit, fm_call *call, uint8_t *bytes, size_t room);
 
-/* Hands in what the device of a unit answered to a call. `supplied` are the `count` bytes of FM_SUPPLIED, at most 256, else none
- * (FM_NOTHING, 0). FM_BAD_ARGUMENT: numbers that are no answer. FM_NOT_NOW: an answer against the law of devices, which is that
- * of the kinds above and that a read backward ends with unit check, or to a call that is no longer at hand. FM_WIRE_FULL, FM_NO_MEMORY:
- * the same is handed in later, and the device is not called again. */
+/* Hands in what the device of a unit answered to a call; of the call its numbers and its side count. `supplied` are the `count` bytes of
+ * FM_SUPPLIED, at most 256, else none (NULL, 0). 0. FM_BAD_ARGUMENT: numbers that are no answer. FM_NOT_NOW: an answer against the law of
+ * devices, which is that of the kinds above and that a read backward ends with unit check, or to a call that is no longer at hand.
+ * FM_WIRE_FULL, FM_NO_MEMORY: the same is handed in later, and the device is not called again. FM_NO_SUCH_UNIT. */
 int32_t fm_report(fm_machine *machine, FM_STORAGE, uint32_t unit, const fm_call *call, const fm_answer *answer,
                   const uint8_t *supplied, size_t count);
 
@@ -358,10 +351,10 @@ int32_t fm_unit_leave(fm_machine *machine, FM_STORAGE, uint32_t unit);
 /* The program that is without a path asks for this one. */
 int32_t fm_unit_ask(fm_machine *machine, FM_STORAGE, uint32_t unit, uint32_t path);
 
-/* The unit asks for attention on a path of its side 0 or 1. */
+/* The unit asks for attention on a path of its side, 0 or 1 (above FM_BAD_ARGUMENT). */
 int32_t fm_unit_attention(fm_machine *machine, FM_STORAGE, uint32_t unit, uint32_t path, uint32_t side);
 
-/* The unit tells its side, on a path, that it was restarted. */
+/* The unit tells its side, 0 or 1 (above FM_BAD_ARGUMENT), on a path, that it was restarted. */
 int32_t fm_unit_notice(fm_machine *machine, FM_STORAGE, uint32_t unit, uint32_t path, uint32_t side);
 
 /* The unit is restarted: it forgets its program, and both sides are to be reset. The host puts its device back to its opening. */
@@ -383,13 +376,15 @@ int32_t fm_system_reset(fm_machine *machine, FM_STORAGE);
 /* The guest's CPUs store where they please between two calls, and no event tells of it. A host that replays a history enters what they
  * stored by these. Absolute addresses, no key is asked. All answer 0. FM_ADDRESSING. */
 
-/* 1 to 256 bytes (else FM_BAD_ARGUMENT) are put into storage. They are not part of what is lent. */
+/* At most 256 bytes (else FM_BAD_ARGUMENT) are put into storage. They are not part of what is lent. */
 int32_t fm_put(fm_machine *machine, FM_STORAGE, uint32_t address, const uint8_t *put, size_t count);
 
-/* The key of the block in which an address lies is set, in the keys that are lent, or in the machine where none are. An even byte. */
+/* The key of the block in which an address lies is set, a byte (above 255 FM_BAD_ARGUMENT) whose bit 7 is ignored, in the keys that are
+ * lent, or in the machine where none are. */
 int32_t fm_set_key(fm_machine *machine, FM_STORAGE, uint32_t address, uint32_t key);
 
-/* The prefix of a CPU is set: a multiple of 8,192 whose 8,192 bytes are in storage (SET PREFIX). FM_SPECIFICATION, FM_ADDRESSING. */
+/* The prefix of a CPU, 0 to 15 (else FM_BAD_ARGUMENT), is set: a multiple of 8,192 whose 8,192 bytes are in storage (SET PREFIX).
+ * FM_SPECIFICATION, FM_ADDRESSING. */
 int32_t fm_set_prefix(fm_machine *machine, FM_STORAGE, uint32_t cpu, uint32_t address);
 
 /* ---- Looks: no event, and nothing changes -------------------------------------------------------------------------------------- */
@@ -403,7 +398,7 @@ int32_t fm_report_count(fm_machine *machine);
 /* The SCHIB that STORE SUBCHANNEL would store, 52 bytes, as far as `room` reaches. FM_NO_SUCH_SUBCHANNEL. */
 int32_t fm_schib(fm_machine *machine, uint32_t subchannel, uint8_t *schib, size_t room);
 
-/* The IRB that TEST SUBCHANNEL would store, 64 bytes, as far as `room` reaches. FM_NO_SUCH_SUBCHANNEL. */
+/* The IRB that TEST SUBCHANNEL would store where the subchannel is enabled, 64 bytes, as far as `room` reaches. FM_NO_SUCH_SUBCHANNEL. */
 int32_t fm_irb(fm_machine *machine, uint32_t subchannel, uint8_t *irb, size_t room);
 
 /* How many statuses a subchannel made, and how many were cleared: status is pending where fewer were. FM_NO_SUCH_SUBCHANNEL. */
@@ -452,24 +447,12 @@ int32_t fm_seen(fm_machine *machine, fm_told *told);
 
 /* ---- Events as text ------------------------------------------------------------------------------------------------------------ */
 
-/* Performs an event that is written as a line of a script (docs/SCRIPTS.md) without its line feed: "ssch 0 500", "cpu 3 tpi 80 0". Not
- * `dev`, `glance` and `race`. The line `report UNIT SIDE NUMBER COMMAND SEQUENCE ANSWER` hands in what a device answered; ANSWER is
- * `begins`, `absorbed COUNT`, `supplied BYTES`, `again`, or `ended STATUS`, with `more` after it or without; all numbers hexadecimal.
- * The text that chsim prints for the line, after the line's number, is written to `text`, cut at `room`, and `*written` says how many
- * bytes of it. The number of the event's answer; or a rule of lines (-0x300 less the rule), and then nothing is performed or
- * written. */
+/* Performs the event that the first line of a text asks for, a line of a script (docs/SCRIPTS.md): "ssch 0 500", "cpu 3 tpi 80 0". The
+ * text that chsim prints for it behind its number, with no line feed, is written to `text` as far as `room` reaches, and `*written` is
+ * how many bytes were: 640 are enough but for a `stcps` with more than 211 paths. A refused event has a text too, as "refused 3".
+ * The number of the event's answer; or FM_LINE_UNKNOWN_WORD of `dev`, `glance`, `race`, of lines that set up and of those that are
+ * none, FM_LINE_WRONG_COUNT, FM_LINE_BAD_WORD, or FM_NO_MEMORY for its words: then nothing is performed and nothing written. */
 int32_t fm_line(fm_machine *machine, FM_STORAGE, const uint8_t *line, size_t length, uint8_t *text, size_t room, size_t *written);
-
-/* How many events are kept. */
-int32_t fm_history_count(fm_machine *machine, uint64_t *count);
-
-/* The event of an entry, counted from 0, as a line that fm_line takes, and its reply as fm_line wrote it; cut at `room`. FM_BAD_ARGUMENT
- * where there is no such entry. */
-int32_t fm_history_line(fm_machine *machine, uint64_t index, uint8_t *text, size_t room, size_t *written);
-int32_t fm_history_reply(fm_machine *machine, uint64_t index, uint8_t *text, size_t room, size_t *written);
-
-/* The entries that are kept are let go; those of later events are counted from 0 again. */
-int32_t fm_forget(fm_machine *machine);
 
 /* ---- What is passed has these sizes -------------------------------------------------------------------------------------------- */
 

@@ -80,6 +80,41 @@ NOT_NOW = -21
 #: A program interruption is this less its code, a rule of configurations or of lines this less its number.
 INTERRUPTION, CONFIGURATION_RULE, LINE_RULE = -0x100, -0x200, -0x300
 
+_NAMES = {
+    NO_MEMORY: "there is no memory",
+    CLOSED: "the handle is closed",
+    ALREADY_OPEN: "the handle is open already",
+    AT_OTHER_STAGE: "the machine is at another stage",
+    BAD_ARGUMENT: "a number or a length is not taken",
+    OTHER_SIZE: "storage is of another size",
+    NUMBERS_USED_UP: "the numbers of events are used up",
+    WIRE_FULL: "the wire is full",
+    NOT_SENT: "no signal waits",
+    NO_SUCH_SUBCHANNEL: "no such subchannel",
+    NO_SUCH_PATH: "no such path",
+    NO_SUCH_UNIT: "no such unit",
+    NOT_NOW: "not now",
+    INTERRUPTION - 0x04: "protection exception",
+    INTERRUPTION - 0x05: "addressing exception",
+    INTERRUPTION - 0x06: "specification exception",
+    INTERRUPTION - 0x15: "operand exception",
+    CONFIGURATION_RULE - 2: "a channel path breaks its rule",
+    CONFIGURATION_RULE - 3: "a unit's number breaks its rule",
+    CONFIGURATION_RULE - 4: "the unit of a subchannel breaks its rule",
+    CONFIGURATION_RULE - 5: "the paths of a subchannel break their rule",
+    CONFIGURATION_RULE - 6: "units that share break their rule",
+    CONFIGURATION_RULE - 7: "the name of a subchannel breaks its rule",
+    CONFIGURATION_RULE - 8: "the sets of subchannels break their rule",
+    LINE_RULE - 1: "the line's first word is of no event",
+    LINE_RULE - 2: "the line has too few or too many words",
+    LINE_RULE - 3: "a word of the line is not what it should be",
+}
+
+
+def name_of(number: int) -> str:
+    """What a refusal is called, as ``"the wire is full"``."""
+    return _NAMES.get(number, "no refusal")
+
 
 class FiluvamothError(Exception):
     """A call was refused."""
@@ -88,10 +123,10 @@ class FiluvamothError(Exception):
 class Refused(FiluvamothError):
     """A call was refused, and nothing is changed: ``number`` is a refusal of ``filuvamoth.h``, ``name`` what it is called."""
 
-    def __init__(self, number: int, name: str) -> None:
-        super().__init__(f"{name} ({number})")
+    def __init__(self, number: int) -> None:
+        super().__init__(f"{name_of(number)} ({number})")
         self.number = number
-        self.name = name
+        self.name = name_of(number)
 
 
 class ProgramInterruption(FiluvamothError):
@@ -106,23 +141,15 @@ class ProgramInterruption(FiluvamothError):
 # ---- The library --------------------------------------------------------------------------------------------------------------------
 
 _CALLS = """
-    new free set_sets add_path add_unit share add_subchannel set_concurrent_sense set_path_return set_up_line start
+    new free set_sets add_path add_unit share add_subchannel set_concurrent_sense set_path_return start
     ssch tsch stsch msch rsch hsch csch xsch tpi rchp stcrw stcps enable
     ssch_orb msch_schib stsch_schib tsch_irb tpi_code stcrw_word stcps_bytes
     turn_subchannel turn_unit choose up down work report
     unit_leave unit_ask unit_attention unit_notice unit_restart path_down path_up path_reset system_reset
-    put set_key set_prefix requests report_count schib irb serials path seen
-    line history_count history_line history_reply forget name
+    put set_key set_prefix requests report_count schib irb serials path seen line
 """.split()
 
 _Call = Callable[..., int]
-
-
-def _missing(name: str) -> _Call:
-    def call(*_arguments: Any) -> int:
-        raise NotImplementedError(f"the library has no fm_{name}")
-
-    return call
 
 
 def _candidates(path: Optional[str]) -> List[str]:
@@ -148,22 +175,14 @@ class _Library:
         self.version: int = dll.fm_version() & 0xFFFFFFFF
         if self.version >> 16 != ABI:
             raise OSError(f"{names[0]} has interface {self.version >> 16}, and this module is for {ABI}")
-        self.calls: Dict[str, _Call] = {name: getattr(dll, "fm_" + name, None) or _missing(name) for name in _CALLS}
+        self.calls: Dict[str, _Call] = {name: getattr(dll, "fm_" + name) for name in _CALLS}
 
-    def name_of(self, number: int) -> str:
-        text = ctypes.create_string_buffer(64)
-        written = ctypes.c_size_t()
-        try:
-            self.calls["name"](number, text, ctypes.c_size_t(64), ctypes.byref(written))
-        except NotImplementedError:
-            pass
-        return text.raw[: written.value].decode("ascii") or f"refusal {number}"
 
-    def failure(self, number: int) -> FiluvamothError:
-        """The exception for a refusal."""
-        if CONFIGURATION_RULE < number < INTERRUPTION:
-            return ProgramInterruption(INTERRUPTION - number)
-        return Refused(number, self.name_of(number))
+def _failure(number: int) -> FiluvamothError:
+    """The exception for a refusal."""
+    if CONFIGURATION_RULE < number < INTERRUPTION:
+        return ProgramInterruption(INTERRUPTION - number)
+    return Refused(number)
 
 
 @functools.lru_cache(maxsize=None)
@@ -174,11 +193,6 @@ def _library(path: Optional[str] = None) -> _Library:
 def version() -> Tuple[int, int]:
     """The number of the interface and of the release of the library."""
     return _library().version >> 16, _library().version & 0xFFFF
-
-
-def name_of(number: int) -> str:
-    """What a refusal is called, as ``"the wire is full"``."""
-    return _library().name_of(number)
 
 
 # ---- What is told -------------------------------------------------------------------------------------------------------------------
@@ -208,6 +222,22 @@ class PathState(enum.IntEnum):
     DOWN = 0
     UP = 1
     ENGAGED = 3
+
+
+class Due(enum.IntEnum):
+    """What a unit is to do."""
+
+    RESTS = 0
+    #: its device is to be called
+    CALL = 1
+    #: a signal waits for it
+    SIGNAL = 2
+    #: it has a report that its device is not needed for
+    REPORT = 3
+    #: its program is away from its path, and may ask for one
+    AWAY = 4
+    #: its program is away, and there is no path that it may ask for
+    AWAY_WAITS = 5
 
 
 class CallKind(enum.IntEnum):
@@ -349,14 +379,13 @@ class Device:
 _CALL = struct.Struct("=QQQIIIIII")
 _ANSWER = struct.Struct("=IIII")
 _TOLD = struct.Struct("=QQQIIIIIxxxx")
-_TEXT_ROOM = 1200
+_TEXT_ROOM = 640
 _CHUNK = 256
 
 # Arguments are made once, in the form in which ctypes passes them on at once.
 _byref = ctypes.byref
 _size = ctypes.c_size_t.from_param
 _SIZES = [_size(count) for count in range(_CHUNK + 1)]
-_NOTHING = ctypes.c_void_p.from_param(1)
 _BEGINS = _ANSWER.pack(1, 0, 0, 0)
 _ABSORBED = [_ANSWER.pack(2, 0, count, 0) for count in range(_CHUNK + 1)]
 _SUPPLIED = _ANSWER.pack(3, 0, 0, 0)
@@ -450,7 +479,7 @@ class Machine:
         self._lent = [_lent(buffer) for buffer in (storage, keys) if buffer is not None]
         addresses = [ctypes.c_void_p.from_param(ctypes.addressof(buffer)) for buffer in self._lent]
         sizes = [_size(len(buffer)) for buffer in self._lent]
-        pairs = list(zip(addresses, sizes)) + [(_NOTHING, _SIZES[0])] * (2 - len(sizes))
+        pairs: List[Tuple[Any, Any]] = list(zip(addresses, sizes)) + [(None, _SIZES[0])] * (2 - len(sizes))
         lent = [argument for pair in pairs for argument in pair]
         calls = self._library.calls
         bound = functools.partial
@@ -483,7 +512,7 @@ class Machine:
 
     def _must(self, number: int) -> int:
         if number < 0:
-            raise self._library.failure(number)
+            raise _failure(number)
         return number
 
     def _set(self, name: str, *arguments: Any) -> int:
@@ -526,19 +555,10 @@ class Machine:
         """Whether a channel path that is back is reported as initialized, which Linux wants, or as available."""
         self._set("set_path_return", int(initialized))
 
-    def set_up_line(self, line: str, device: Optional[Device] = None) -> None:
-        """A configuration line of a script. A line of a unit has its device beside it."""
-        data = line.encode("utf-8")
-        self._set("set_up_line", data, _size(len(data)))
-        words = line.split(" ")
-        if words[0] == "unit":
-            self._devices.append(device if device is not None else Device())
-        elif words[0] == "sub":
-            self._subchannels.append(int(words[1], 16) + (0x10000 if len(words[1]) <= 4 else 0))
-
     def start(self, storage: Any, keys: Any = None, history: bool = False, blocks: Optional[int] = None) -> None:
         """The machine runs on this storage, of 4,096 bytes for each block, 16 to 524,288. ``keys`` has a byte for each block, its storage
-        key; without it keys are in the machine. With ``history`` each accepted event is kept, with its reply."""
+        key; without it keys are in the machine. With ``history`` each accepted event is kept, with its reply, until the machine is
+        closed."""
         size = memoryview(storage).nbytes
         if size % 4096:
             raise ValueError("storage has whole blocks of 4,096 bytes")
@@ -702,7 +722,7 @@ class Machine:
         """The device of a unit is called for what it is asked for, and its answer handed in. One that is refused for want of room on a
         wire waits, and is handed in by a later call. Refused NOT_NOW: the device gave an answer against the law of devices."""
         if not 0 <= unit < len(self._reports):
-            raise self._library.failure(NO_SUCH_UNIT)
+            raise Refused(NO_SUCH_UNIT)
         return Turn(self._must(self._serve(unit)))
 
     def _serve(self, unit: int) -> int:
@@ -710,7 +730,7 @@ class Machine:
             return self._hand_in(unit, *self._waiting[unit])
         number = self._works[unit]()
         if number != 1:
-            return number
+            return min(number, 0)
         answer, data = self._answer(self._devices[unit], self._call_words)
         number = self._reports[unit](self._call, answer, data, _SIZES[len(data)])
         if number >= 0:
@@ -729,6 +749,8 @@ class Machine:
             return _ended(status, False) if status else _BEGINS, b""
         if kind == 3:
             data = device.supply(call[11])
+            if type(data) is not bytes:
+                data = bytes(data)
             if len(data) > call[11]:
                 raise ValueError("a device gives at most as many bytes as it is asked for")
             return _SUPPLIED, data
@@ -743,9 +765,17 @@ class Machine:
         del self._waiting[unit]
         return number if number < 0 and number != NOT_NOW else 1
 
+    def due(self, unit: int) -> Due:
+        """What a unit is to do. No event."""
+        return Due(self._must(self._find_work(_word(unit), self._call, self._room, _SIZES[_CHUNK])))
+
+    def away_path(self, unit: int) -> Optional[int]:
+        """The index of the path for which the program of a unit that is away may ask, by :meth:`unit_ask`; None where it may for none."""
+        return self._call_words[10] if self.due(unit) == Due.AWAY else None
+
     def work(self, unit: int) -> Optional[Work]:
-        """What the device of a unit is asked for now; None where it is asked for nothing. No event."""
-        if self._must(self._find_work(_word(unit), self._call, self._room, _SIZES[_CHUNK])) != 1:
+        """What the device of a unit is asked for now; None where it is not to be called. No event."""
+        if self.due(unit) != Due.CALL:
             return None
         number, command, sequence, kind, side, code, from_side, from_path, count = _CALL.unpack(self._call)
         data = self._room[:count] if kind == CallKind.ABSORB else b""
@@ -801,11 +831,11 @@ class Machine:
     # -- events on storage
 
     def put(self, address: int, data: bytes) -> None:
-        """1 to 256 bytes are put into storage, by an event: for histories alone, since storage is the program's."""
+        """At most 256 bytes are put into storage, by an event: for histories alone, since storage is the program's."""
         self._event("put", _word(address), bytes(data), _size(len(data)))
 
     def set_key(self, address: int, key: int) -> None:
-        """The key of the block in which an address lies is set."""
+        """The key of the block in which an address lies is set: a byte, whose bit 7 is ignored."""
         self._event("set_key", _word(address), _word(key))
 
     def set_prefix(self, cpu: int, address: int) -> None:
@@ -851,36 +881,12 @@ class Machine:
 
     def line(self, line: str) -> Line:
         """Performs an event that is written as a line of a script, and answers as ``chsim`` does, also where the event is refused. Refused
-        with a rule of lines where it is none."""
+        with a rule of lines where it asks for none, as ``dev``, ``glance`` and lines that set up."""
         data = line.encode("utf-8")
         number = self._events["line"](data, _size(len(data)), self._text, _size(_TEXT_ROOM), _byref(self._written))
         if self._written.value == 0:
             self._must(number)
-        return Line(number, self._taken_text())
-
-    def _taken_text(self) -> str:
-        return self._text.raw[: min(self._written.value, _TEXT_ROOM)].decode("ascii")
-
-    def history_count(self) -> int:
-        """How many events are kept."""
-        self._set("history_count", _byref(self._made))
-        return self._made.value
-
-    def history_entry(self, index: int) -> Tuple[str, str]:
-        """The event of an entry as a line that :meth:`line` takes, and its reply."""
-        texts = []
-        for name in ("history_line", "history_reply"):
-            self._set(name, ctypes.c_uint64(index), self._text, _size(_TEXT_ROOM), _byref(self._written))
-            texts.append(self._taken_text())
-        return texts[0], texts[1]
-
-    def history(self) -> List[Tuple[str, str]]:
-        """The events that are kept, each as a line, with its reply."""
-        return [self.history_entry(index) for index in range(self.history_count())]
-
-    def forget(self) -> None:
-        """The events that are kept are let go."""
-        self._set("forget")
+        return Line(number, self._text.raw[: self._written.value].decode("ascii"))
 
 
 _EVENTS = """

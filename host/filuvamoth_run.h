@@ -90,18 +90,18 @@ static inline int32_t fm_hand_in(const fm_host *host, uint32_t number)
 {
     fm_unit *unit = &host->units[number];
     int32_t answered = fm_report(host->machine, FM_LENT(host->storage), number, &unit->call, &unit->answer,
-                                 unit->count != 0 ? unit->bytes : FM_NOTHING, unit->count);
+                                 unit->bytes, unit->count);
     unit->waits = answered == FM_WIRE_FULL || answered == FM_NO_MEMORY;
     return answered < 0 ? answered : FM_TURNED;
 }
 
-/* The device of a unit is called for what it is asked for, and its answer handed in. */
+/* The device of a unit is called, where that is due, and its answer handed in: FM_TURNED, FM_NOTHING_DUE or a refusal. */
 static inline int32_t fm_serve(const fm_host *host, uint32_t number)
 {
     fm_unit *unit = &host->units[number];
-    int32_t asked = fm_work(host->machine, number, &unit->call, unit->bytes, sizeof unit->bytes);
-    if (asked <= 0) {
-        return asked;
+    int32_t due = fm_work(host->machine, number, &unit->call, unit->bytes, sizeof unit->bytes);
+    if (due != FM_CALL_DUE) {
+        return due < 0 ? due : FM_NOTHING_DUE;
     }
     return fm_call_device(unit) ? fm_hand_in(host, number) : FM_BAD_ARGUMENT;
 }

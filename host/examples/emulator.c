@@ -3,6 +3,7 @@
  *
  *     cc -std=c99 -I.. emulator.c -L.. -lfiluvamoth -o emulator
  */
+#include "filuvamoth_names.h"
 #include "filuvamoth_run.h"
 #include <stdio.h>
 #include <stdlib.h>
@@ -79,10 +80,7 @@ typedef struct emulator {
 static int32_t must(const char *what, int32_t number)
 {
     if (number < 0) {
-        uint8_t name[64];
-        size_t length = 0;
-        fm_name(number, name, sizeof name, &length);
-        fprintf(stderr, "%s is refused, %d: %.*s\n", what, (int)number, (int)length, (const char *)name);
+        fprintf(stderr, "%s is refused, %d: %s\n", what, (int)number, fm_name(number));
         exit(1);
     }
     return number;

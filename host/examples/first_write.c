@@ -4,6 +4,7 @@
  *     cc -std=c99 -I.. first_write.c -L.. -lfiluvamoth -o first_write
  */
 #include "filuvamoth.h"
+#include "filuvamoth_names.h"
 #include <stdio.h>
 #include <stdlib.h>
 #include <string.h>
@@ -22,10 +23,7 @@ static uint32_t line_length;
 static int32_t must(const char *what, int32_t number)
 {
     if (number < 0) {
-        uint8_t name[64];
-        size_t length = 0;
-        fm_name(number, name, sizeof name, &length);
-        fprintf(stderr, "%s is refused, %d: %.*s\n", what, (int)number, (int)length, (const char *)name);
+        fprintf(stderr, "%s is refused, %d: %s\n", what, (int)number, fm_name(number));
         exit(1);
     }
     return number;
@@ -86,7 +84,7 @@ static void serve(fm_machine *machine)
     uint8_t bytes[256];
     must("fm_work", fm_work(machine, UNIT, &call, bytes, sizeof bytes));
     answer = answer_of(&call, bytes);
-    must("fm_report", fm_report(machine, FM_LENT(&storage), UNIT, &call, &answer, FM_NOTHING, 0));
+    must("fm_report", fm_report(machine, FM_LENT(&storage), UNIT, &call, &answer, NULL, 0));
     printf("the device is asked for %s\n", names[call.kind]);
 }
 

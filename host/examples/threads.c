@@ -106,7 +106,7 @@ static void turn_unit(cpu *one)
         uint8_t bytes[256];
         must("fm_work", fm_work(&machine, one->number, &call, bytes, sizeof bytes));
         answer = answer_of(one, &call, bytes);
-        must("fm_report", fm_report(&machine, FM_LENT(&storage), one->number, &call, &answer, FM_NOTHING, 0));
+        must("fm_report", fm_report(&machine, FM_LENT(&storage), one->number, &call, &answer, NULL, 0));
     }
 }
 
