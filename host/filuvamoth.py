@@ -23,8 +23,8 @@ A machine is set up, started on storage that the program lends, and turned; its 
         ...
 
 The module stands over the shared library ``libfiluvamoth.so``, whose header ``filuvamoth.h`` says what each call does, and needs
-nothing else. The library is looked for where the environment variable ``FILUVAMOTH_LIBRARY`` says, beside this file, and where the
-system has libraries.
+nothing else. The library is looked for where the environment variable ``FILUVAMOTH_LIBRARY`` says, beside this file, in ``out`` beside
+its folder, as in a checkout, and where the system has libraries.
 
 Storage is a ``bytearray``, a writable ``mmap.mmap``, or another writable buffer: nothing is copied. It stays the program's, which
 stores there between two calls as the guest's CPUs do. While the machine is open a ``bytearray`` cannot be resized.
@@ -158,9 +158,12 @@ def _candidates(path: Optional[str]) -> List[str]:
     named = os.environ.get("FILUVAMOTH_LIBRARY")
     if named:
         return [named]
-    beside = os.path.join(os.path.dirname(os.path.abspath(__file__)), "libfiluvamoth.so")
+    here = os.path.dirname(os.path.abspath(__file__))
+    for beside in (os.path.join(here, "libfiluvamoth.so"), os.path.join(os.path.dirname(here), "out", "libfiluvamoth.so")):
+        if os.path.exists(beside):
+            return [beside]
     found = ctypes.util.find_library("filuvamoth")
-    return ([beside] if os.path.exists(beside) else []) + ([found] if found else [])
+    return [found] if found else []
 
 
 class _Library:
@@ -169,7 +172,7 @@ class _Library:
     def __init__(self, path: Optional[str]) -> None:
         names = _candidates(path)
         if not names:
-            raise OSError("libfiluvamoth.so is not found: set FILUVAMOTH_LIBRARY to its path")
+            raise OSError("libfiluvamoth.so is not found: tools/archive makes it; or set FILUVAMOTH_LIBRARY to its path")
         # PyDLL keeps the interpreter's lock, which also takes less time: no call waits for anything.
         dll = ctypes.PyDLL(names[0])
         self.version: int = dll.fm_version() & 0xFFFFFFFF

@@ -585,6 +585,7 @@ static void devices_that_write(void)
     EXPECT(answer_by(&machine, &call, FM_BEGINS, 0, 0), FM_NOT_NOW);
     call = turn_until(&machine, FM_CALL_ABSORB);
     EXPECT(call.count, 4);
+    refuse(&machine, &call, FM_ENDED, FM_CHANNEL_END | FM_DEVICE_END, 0);
     refuse(&machine, &call, FM_ABSORBED, 0, 5);
     refuse(&machine, &call, FM_ABSORBED, 0, 0xFFFF);
     refuse(&machine, &call, FM_BEGINS, 0, 0);
@@ -615,6 +616,7 @@ static void devices_that_read(void)
     EXPECT(answer_by(&machine, &call, FM_BEGINS, 0, 0), 0);
     call = turn_until(&machine, FM_CALL_SUPPLY);
     EXPECT(call.count, 4);
+    refuse(&machine, &call, FM_ENDED, FM_CHANNEL_END | FM_DEVICE_END, 0);
     refuse(&machine, &call, FM_SUPPLIED, 0, 5);
     refuse(&machine, &call, FM_SUPPLIED, 0, 256);
     refuse(&machine, &call, FM_ABSORBED, 0, 4);
@@ -626,12 +628,10 @@ static void devices_that_read(void)
     refuse(&machine, &call, FM_SUPPLIED, 0, 0);
     EXPECT(answer_by(&machine, &call, FM_ENDED, FM_CHANNEL_END | FM_DEVICE_END, 0), 0);
     end(&machine, 0x0C000000);
-    /* A read backward ends with unit check, whatever the device would like. */
+    /* A device has no read backward. */
     start(&machine, 0x0C, 4);
     call = turn_until(&machine, FM_CALL_INITIAL);
     EXPECT(call.code, 0x0C);
-    refuse(&machine, &call, FM_BEGINS, 0, 0);
-    refuse(&machine, &call, FM_ENDED, FM_CHANNEL_END, 0);
     EXPECT(answer_by(&machine, &call, FM_ENDED, FM_UNIT_CHECK, 0), 0);
     end(&machine, 0x02000004);
     /* A control command whose channel end was the initial status has device end alone at last. */

@@ -18,8 +18,12 @@ typedef struct tally {
     unsigned scripts, listed, otherwise, races, lines, calls, turns, values;
 } tally;
 
+/* What was performed of a bad script counts nowhere. */
 static void add(tally *all, const play_came *came)
 {
+    if (came->length >= 9 && memcmp(came->text, "bad line ", 9) == 0) {
+        return;
+    }
     all->races += came->races;
     all->lines += came->lines;
     all->calls += came->calls;
