@@ -442,7 +442,7 @@ typedef struct fm_told {
     uint32_t words[3];
 } fm_told;
 
-/* What the last accepted event answered; where the last one was refused and no history is kept, FM_TOLD_NOTHING. */
+/* What the last accepted event answered. Where no history is kept, an event that was refused since may have left FM_TOLD_NOTHING. */
 int32_t fm_seen(fm_machine *machine, fm_told *told);
 
 /* ---- Events as text ------------------------------------------------------------------------------------------------------------ */

@@ -245,7 +245,6 @@ static void store_program(uint8_t command, uint8_t count)
 static void sizes(void)
 {
     fm_machine machine;
-    fm_told told;
     uint8_t schib[52];
     uint8_t after[52];
     size_t written = 7;
@@ -260,8 +259,6 @@ static void sizes(void)
     EXPECT(fm_path_down(&machine, NULL, 0, NULL, 0, PATH), FM_OTHER_SIZE);
     EXPECT(fm_line(&machine, NULL, 0, NULL, 0, (const uint8_t *)"csch 0", 6, text, sizeof text, &written), FM_OTHER_SIZE);
     EXPECT(written == 10 && memcmp(text, "other size", 10) == 0, 1);
-    EXPECT(fm_seen(&machine, &told), 0);
-    EXPECT(told.kind, FM_TOLD_CODE);
     EXPECT(fm_schib(&machine, WORD, after, sizeof after), 0);
     EXPECT(memcmp(schib, after, sizeof schib), 0);
     EXPECT(fm_csch(&machine, guest, sizeof guest, keys, BLOCKS, 0, WORD), 0);
@@ -414,6 +411,65 @@ static void rooms(void)
     EXPECT(fm_line(&machine, FM_LENT(&storage), (const uint8_t *)"up 0", 4, text, sizeof text, &written), FM_LINE_WRONG_COUNT);
     EXPECT(fm_line(&machine, FM_LENT(&storage), (const uint8_t *)"up 0 x", 6, text, sizeof text, &written), FM_LINE_BAD_WORD);
     EXPECT(written, 0);
+    EXPECT(fm_free(&machine), 0);
+}
+
+/* ---- What is seen ---------------------------------------------------------------------------------------------------------------- */
+
+static void seen(void)
+{
+    static const uint32_t path[1] = { PATH };
+    fm_machine machine = FM_MACHINE_INIT;
+    fm_told told;
+    uint8_t block[64];
+    uint32_t words[3];
+    uint64_t made = 9, cleared = 9;
+    memset(guest, 0, sizeof guest);
+    EXPECT(fm_new(&machine), 0);
+    EXPECT(fm_add_path(&machine, PATH), 0);
+    EXPECT(fm_add_unit(&machine, 0), 0);
+    EXPECT(fm_add_subchannel(&machine, WORD, 0x100, 0, path, 1), 0);
+    EXPECT(fm_start(&machine, BLOCKS, FM_KEEP_ALL), 0);
+    EXPECT(fm_seen(&machine, &told), 0);
+    EXPECT(told.kind, FM_TOLD_NOTHING);
+    EXPECT(fm_set_prefix(&machine, FM_LENT(&storage), 0, 0), 0);
+    EXPECT(fm_seen(&machine, &told), 0);
+    EXPECT(told.kind, FM_TOLD_DONE);
+    EXPECT(fm_enable(&machine, FM_LENT(&storage), 0, WORD, 3, 0), 0);
+    EXPECT(fm_seen(&machine, &told), 0);
+    EXPECT(told.kind, FM_TOLD_CODE);
+    /* A history keeps what was accepted last, whatever is refused. */
+    EXPECT(fm_up(&machine, FM_LENT(&storage), WORD, 0), FM_NOT_SENT);
+    EXPECT(fm_seen(&machine, &told), 0);
+    EXPECT(told.kind, FM_TOLD_CODE);
+    /* A halt of a subchannel without a program makes status: halt-idle.out of the examples has its words. */
+    EXPECT(fm_hsch(&machine, FM_LENT(&storage), 0, WORD), 0);
+    EXPECT(fm_turn_subchannel(&machine, FM_LENT(&storage), WORD), FM_TURNED);
+    EXPECT(fm_requests(&machine), 0x10);
+    EXPECT(fm_serials(&machine, WORD, &made, &cleared), 0);
+    EXPECT(made == 1 && cleared == 0, 1);
+    EXPECT(fm_tpi_code(&machine, 0, 0xEF, words, 3), 0);
+    EXPECT(fm_tpi_code(&machine, 0, 0x10, words, 3), 1);
+    EXPECT(words[0], WORD);
+    EXPECT(fm_seen(&machine, &told), 0);
+    EXPECT(told.kind == FM_TOLD_INTERRUPTION && told.words[0] == WORD, 1);
+    EXPECT(fm_requests(&machine), 0);
+    EXPECT(fm_irb(&machine, WORD, block, sizeof block), 0);
+    EXPECT(block[2] == 0x20 && block[3] == 0x01, 1);
+    EXPECT(fm_tsch_irb(&machine, 0, WORD, block, sizeof block), 0);
+    EXPECT(block[2] == 0x20 && block[3] == 0x01, 1);
+    EXPECT(fm_seen(&machine, &told), 0);
+    EXPECT(told.kind, FM_TOLD_STATUS);
+    EXPECT(told.words[0], 0x00002001);
+    EXPECT(told.made == 1 && told.cleared == 1, 1);
+    EXPECT(fm_rchp(&machine, FM_LENT(&storage), 0, PATH), 0);
+    EXPECT(fm_path_reset(&machine, FM_LENT(&storage), PATH), 0);
+    EXPECT(fm_report_count(&machine), 1);
+    /* reset-path.out of the examples has the report. */
+    EXPECT(fm_stcrw_word(&machine, 0, words, 1), 0);
+    EXPECT(words[0], 0x44020010);
+    EXPECT(fm_stcrw_word(&machine, 0, words, 1), 1);
+    EXPECT(words[0], 0);
     EXPECT(fm_free(&machine), 0);
 }
 
@@ -667,6 +723,7 @@ int main(void)
     sizes();
     arguments();
     rooms();
+    seen();
     keys_lent();
     devices_that_write();
     devices_that_read();

@@ -90,7 +90,7 @@ class Bench:
         self.counts = Counts(self.scripts, self.lists)
         self.values: Optional[int] = None
         self.emulator: Optional[str] = None
-        self.measured: List[str] = []
+        self.measured: Dict[str, int] = {}
 
     def run(self, words: Sequence[object], status: int = 0, environment: Optional[Dict[str, str]] = None) -> str:
         """Runs a program: what it prints."""
@@ -278,7 +278,7 @@ def stack(bench: Bench) -> str:
     most = 0
     for by in ("lines", "calls", "value"):
         most = max(most, number_in(bench.run([program, "-s", 1 << 20, "-b", by, "-h", *bench.scripts]), "stack"))
-    bench.measured.append(f"stack: {most} bytes at most, with those of the player")
+    bench.measured["stack"] = most
     for by in ("lines", "calls", "value"):
         must_be(bench.run([program, "-s", STACK, "-b", by, "-h", *bench.scripts]), {"scripts": bench.counts.scripts, "otherwise": 0})
     return f"all scripts on a stack of {STACK} bytes; {most} are used, with those of the player"
@@ -293,9 +293,9 @@ def instructions(bench: Bench) -> str:
         few, many = (number_in(bench.run([*words, count]), "Collected :") for count in (100, 1100))
         each = (many - few) // 1000
         said.append(f"{each} by {how}")
-        if how == "calls" and each > MOST_INSTRUCTIONS:
-            raise Failed(f"{each} instructions a write of four bytes, more than {MOST_INSTRUCTIONS}")
-    bench.measured.append(f"instructions of a write of four bytes, its device in C, no history: {', '.join(said)}")
+        bench.measured[how] = each
+    if bench.measured["calls"] > MOST_INSTRUCTIONS:
+        raise Failed(f"a write of four bytes has {', '.join(said)} instructions, more than {MOST_INSTRUCTIONS}")
     return f"a write of four bytes has {', '.join(said)} instructions"
 
 
@@ -324,7 +324,7 @@ def examples_in_python(bench: Bench) -> str:
 def programs_in_python(bench: Bench) -> str:
     came = bench.run([sys.executable, HERE / "cycle.py", "4"], environment=in_python(bench))
     programs = number_in(came, "programs")
-    bench.measured.append(f"programs a second through Python: {programs}")
+    bench.measured["programs"] = programs
     if programs < LEAST_PROGRAMS:
         raise Failed(f"{programs} programs a second through Python, fewer than {LEAST_PROGRAMS}")
     return f"{programs} programs a second"
@@ -360,6 +360,10 @@ def installed(bench: Bench) -> str:
     bench.run([TOP / "tools/install", "--library-only", "--from", bench.top, prefix])
     compiler = "gcc" if "gcc" not in bench.without else "clang"
     if shutil.which("pkg-config"):
+        release = bench.run(["pkg-config", "--modversion", "filuvamoth"], environment={"PKG_CONFIG_PATH": str(prefix / "lib/pkgconfig")})
+        version = "import filuvamoth; print(*filuvamoth.version(), sep='.')"
+        if release != bench.run([sys.executable, "-c", version], environment=in_python(bench)):
+            raise Failed(f"filuvamoth.pc.in is of {release}, the library is not")
         words = bench.run(["pkg-config", "--cflags", "--libs", "filuvamoth"], environment={"PKG_CONFIG_PATH": str(prefix / "lib/pkgconfig")}).split()
     else:
         words = [f"-I{prefix}/include", f"-L{prefix}/lib", "-lfiluvamoth"]
@@ -370,9 +374,42 @@ def installed(bench: Bench) -> str:
     check_example(bench, "first_write", came)
     if "man" not in bench.without:
         page = bench.run(["man", "--warnings", "-l", prefix / "share/man/man3/filuvamoth.3"], environment={"MANWIDTH": "100", "LC_ALL": "C.UTF-8"})
-        if "fm_turn_subchannel" not in page:
-            raise Failed("the manual page is empty")
+        unnamed = [name for name in re.findall(r"^\w+ (fm_\w+)\(", (HOST / "filuvamoth.h").read_text("utf-8"), re.M) if f"{name}()" not in page]
+        if unnamed:
+            raise Failed(f"the manual page does not name {unnamed}")
     return "what is installed builds and runs the first example, in C and in Python"
+
+
+def documents(bench: Bench) -> str:
+    """What docs/HOSTS.md has a reader type, and what it says is printed."""
+    page = (TOP / "docs/HOSTS.md").read_text("utf-8")
+    found = re.findall(r"<!-- typed -->\n```\n(.*?)```\n\n<!-- printed -->\n```\n(.*?)```", page, re.S)
+    if len(found) < 2 or len(found) != page.count("<!-- typed -->"):
+        raise Failed(f"{len(found)} blocks of docs/HOSTS.md are typed and printed, of {page.count('<!-- typed -->')}")
+    clone = bench.folder / "clone"
+    clone.mkdir()
+    (clone / "host").symlink_to(HOST)
+    (clone / "out").symlink_to(bench.top / "out")
+    for typed_there, printed in found:
+        came = bench.run(["sh", "-ec", f"cd {clone}\n{typed_there}"], environment={"PYTHONDONTWRITEBYTECODE": "1"})
+        if came != printed:
+            raise Failed(f"docs/HOSTS.md says that this prints otherwise:\n{typed_there}{came}")
+    return f"{len(found)} blocks of docs/HOSTS.md print what it says"
+
+
+def figures(bench: Bench) -> str:
+    """What docs/HOSTS.md says was measured, beside what was measured now: within a twentieth."""
+    page = (TOP / "docs/HOSTS.md").read_text("utf-8")
+    said = {name: int(number.replace(",", "")) for name, number in re.findall(r"<!-- measured: (\w+) -->([\d,]+)", page)}
+    checked = []
+    for name in ("calls", "loop", "stack"):
+        if name not in said:
+            raise Failed(f"docs/HOSTS.md has no figure of {name}")
+        if name in bench.measured:
+            checked.append(f"{name} {bench.measured[name]}")
+            if abs(said[name] - bench.measured[name]) > bench.measured[name] / 20:
+                raise Failed(f"docs/HOSTS.md says {name} {said[name]}, measured is {bench.measured[name]}")
+    return f"{', '.join(checked)}, as docs/HOSTS.md says"
 
 
 def checks_of(bench: Bench) -> List[Tuple[str, Callable[[], str]]]:
@@ -403,6 +440,7 @@ def checks_of(bench: Bench) -> List[Tuple[str, Callable[[], str]]]:
     add("nm", "declared", declared)
     add("nm", "needs", needs)
     add("", "installed", installed)
+    add("", "documents", documents)
     return found
 
 
@@ -423,8 +461,8 @@ def run_all(bench: Bench, jobs: int, only: Optional[str]) -> int:
     """Runs all checks: how many failed."""
     failed = 0
     checks = [it for it in checks_of(bench) if only is None or re.search(only, it[0])]
-    # What is timed runs alone, at the end.
-    alone: List[Tuple[str, Callable[[], str]]] = [("Python programs", lambda: programs_in_python(bench))]
+    # What is timed runs alone, at the end, and then what was measured is compared.
+    alone: List[Tuple[str, Callable[[], str]]] = [("Python programs", partial(programs_in_python, bench)), ("figures", partial(figures, bench))]
     alone = [it for it in alone if only is None or re.search(only, it[0])]
     with ThreadPoolExecutor(jobs) as pool:
         futures: List[Future[Tuple[str, bool, str, float]]] = [pool.submit(run_one, *it) for it in checks]
@@ -466,8 +504,6 @@ def main() -> int:
     with tempfile.TemporaryDirectory(prefix="host-tests.") as folder:
         bench = Bench(top, Path(folder), without)
         failed = run_all(bench, given.jobs, given.only)
-    for line in bench.measured:
-        print(f"measured  {line}")
     if without:
         print(f"left out: {', '.join(without)}")
     print(f"{time.monotonic() - start:.0f} s")
