@@ -1,15 +1,11 @@
 /* Plays scripts through the C library, and compares what comes with what is stored.
  *
- *     play [-b lines|calls|value] [-k] [-h] [-s BYTES] SCRIPT.chs.. [-c LIST..]
+ *     play [-b lines|calls|value] [-k] [-h] SCRIPT.chs.. [-c LIST..]
  *
- * -b how actions are performed; -k keys are lent; -h a history is kept; -s all is done on a stack of so many bytes, behind which nothing
- * may be touched. SCRIPT.out has what is stored. Each line of a LIST is `SCRIPT -> WANTED`, where ` / ` parts the lines of a script, and
+ * -b how actions are performed; -k keys are lent; -h a history is kept. SCRIPT.out has what is stored. Each line of a LIST is `SCRIPT -> WANTED`, where ` / ` parts the lines of a script, and
  * WANTED is `script ok` or `bad line L rule N`.
  */
-#define _DEFAULT_SOURCE
 #include "stored.h"
-#include <pthread.h>
-#include <sys/mman.h>
 
 typedef struct tally {
     int argc;
@@ -110,9 +106,8 @@ static void play_list(tally *all, const char *name)
     free(text);
 }
 
-static void *play_all(void *argument)
+static void play_all(tally *all)
 {
-    tally *all = argument;
     bool lists = false;
     int at;
     for (at = 0; at < all->argc; at++) {
@@ -124,38 +119,11 @@ static void *play_all(void *argument)
             play_file(all, all->argv[at]);
         }
     }
-    return NULL;
-}
-
-/* On a stack of so many bytes, which ends by pages that may not be touched: how many bytes of it were used. */
-static size_t play_on_stack(tally *all, size_t size)
-{
-    enum { PAGE = 4096, PAINT = 0xA5 };
-    uint8_t *area = mmap(NULL, size + 16 * PAGE, PROT_NONE, MAP_PRIVATE | MAP_ANONYMOUS, -1, 0);
-    uint8_t *stack = area + 16 * PAGE;
-    pthread_attr_t attributes;
-    pthread_t thread;
-    size_t unused = 0;
-    if (area == MAP_FAILED || mprotect(stack, size, PROT_READ | PROT_WRITE) != 0) {
-        fprintf(stderr, "no stack\n");
-        exit(2);
-    }
-    memset(stack, PAINT, size);
-    if (pthread_attr_init(&attributes) != 0 || pthread_attr_setstack(&attributes, stack, size) != 0 ||
-        pthread_create(&thread, &attributes, play_all, all) != 0 || pthread_join(thread, NULL) != 0) {
-        fprintf(stderr, "no thread\n");
-        exit(2);
-    }
-    while (unused < size && stack[unused] == PAINT) {
-        unused++;
-    }
-    return size - unused;
 }
 
 int main(int argc, char **argv)
 {
     tally all;
-    size_t stack = 0;
     int at = 1;
     memset(&all, 0, sizeof all);
     while (at < argc && argv[at][0] == '-' && argv[at][1] != 'c') {
@@ -164,8 +132,6 @@ int main(int argc, char **argv)
             all.how.lends_keys = true;
         } else if (strcmp(option, "-h") == 0) {
             all.how.history = FM_KEEP_ALL;
-        } else if (strcmp(option, "-s") == 0 && at < argc) {
-            stack = (size_t)strtoul(argv[at++], NULL, 10);
         } else if (strcmp(option, "-b") == 0 && at < argc) {
             const char *by = argv[at++];
             all.how.by = strcmp(by, "value") == 0 ? BY_VALUE : strcmp(by, "calls") == 0 ? BY_CALLS : BY_LINES;
@@ -176,12 +142,7 @@ int main(int argc, char **argv)
     }
     all.argc = argc - at;
     all.argv = argv + at;
-    if (stack != 0) {
-        size_t used = play_on_stack(&all, stack);
-        printf("stack %lu\n", (unsigned long)used);
-    } else {
-        play_all(&all);
-    }
+    play_all(&all);
     printf("scripts %u listed %u otherwise %u races %u lines %u calls %u turns %u values %u\n", all.scripts, all.listed, all.otherwise,
            all.races, all.lines, all.calls, all.turns, all.values);
     return all.otherwise == 0 ? 0 : 1;
