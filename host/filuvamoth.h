@@ -336,8 +336,9 @@ int32_t fm_work(fm_machine *machine, uint32_t unit, fm_call *call, uint8_t *byte
 
 /* Hands in what the device of a unit answered to a call; of the call its numbers and its side count. `supplied` are the `count` bytes of
  * FM_SUPPLIED, at most 256, else none (NULL, 0). 0. FM_BAD_ARGUMENT: numbers that are no answer. FM_NOT_NOW: an answer against the law of
- * devices, which is that of the kinds above and that a read backward ends with unit check, or to a call that is no longer at hand.
- * FM_WIRE_FULL, FM_NO_MEMORY: the same is handed in later, and the device is not called again. FM_NO_SUCH_UNIT. */
+ * devices, as the kinds above have it, or to a call that is no longer at hand. FM_WIRE_FULL, FM_NO_MEMORY: the same is handed in later,
+ * and the device is not called again. FM_NO_SUCH_UNIT. A read backward (code xC) is to be ended with unit check: where a device begins
+ * one, it is asked for no bytes. */
 int32_t fm_report(fm_machine *machine, FM_STORAGE, uint32_t unit, const fm_call *call, const fm_answer *answer,
                   const uint8_t *supplied, size_t count);
 

@@ -78,14 +78,14 @@ static fm_answer answer_of(const fm_call *call, const uint8_t *bytes)
 /* The device is called for what it is asked for, and its answer is handed in. */
 static void serve(fm_machine *machine)
 {
-    static const char *const names[5] = { "nothing", "an initial status", "to absorb", "to supply", "a final status" };
+    static const char *const names[5] = { "for nothing", "for an initial status", "to take bytes", "to give bytes", "for a final status" };
     fm_call call;
     fm_answer answer;
     uint8_t bytes[256];
     must("fm_work", fm_work(machine, UNIT, &call, bytes, sizeof bytes));
     answer = answer_of(&call, bytes);
     must("fm_report", fm_report(machine, FM_LENT(&storage), UNIT, &call, &answer, NULL, 0));
-    printf("the device is asked for %s\n", names[call.kind]);
+    printf("the device is asked %s\n", names[call.kind]);
 }
 
 /* Turns the unit and the subchannel until neither has anything to do. */

@@ -212,6 +212,34 @@ static void settings(void)
     EXPECT(fm_free(&machine), 0);
 }
 
+/* What the two settings for Linux change: docs/DEVIATIONS.md says what each word is with them and without. */
+static void choices(uint32_t chosen, uint8_t sense, uint32_t report)
+{
+    static const uint32_t paths[1] = { PATH };
+    fm_machine machine = FM_MACHINE_INIT;
+    uint8_t schib[52];
+    uint32_t word[1];
+    EXPECT(fm_new(&machine), 0);
+    EXPECT(fm_set_concurrent_sense(&machine, chosen), 0);
+    EXPECT(fm_set_path_return(&machine, chosen), 0);
+    EXPECT(fm_add_path(&machine, PATH), 0);
+    EXPECT(fm_add_unit(&machine, 0), 0);
+    EXPECT(fm_add_subchannel(&machine, WORD, 0x100, 0, paths, 1), 0);
+    EXPECT(fm_start(&machine, BLOCKS, FM_KEEP_NONE), 0);
+    EXPECT(fm_stsch_schib(&machine, 0, WORD, schib, sizeof schib), 0);
+    schib[27] |= 0x01;
+    EXPECT(fm_msch_schib(&machine, 0, WORD, schib, sizeof schib), 0);
+    EXPECT(fm_stsch_schib(&machine, 0, WORD, schib, sizeof schib), 0);
+    EXPECT(schib[27], sense);
+    EXPECT(fm_path_down(&machine, FM_LENT(&storage), PATH), 0);
+    EXPECT(fm_path_up(&machine, FM_LENT(&storage), PATH), 0);
+    EXPECT(fm_stcrw_word(&machine, 0, word, 1), 0);
+    EXPECT(word[0], 0x04060000 | PATH);
+    EXPECT(fm_stcrw_word(&machine, 0, word, 1), 0);
+    EXPECT(word[0], report | PATH);
+    EXPECT(fm_free(&machine), 0);
+}
+
 /* ---- A machine that runs --------------------------------------------------------------------------------------------------------- */
 
 /* Two paths, two units, two subchannels, of which the first is enabled; storage is cleared but for F00, where it was. */
@@ -684,12 +712,17 @@ static void devices_that_read(void)
     refuse(&machine, &call, FM_SUPPLIED, 0, 0);
     EXPECT(answer_by(&machine, &call, FM_ENDED, FM_CHANNEL_END | FM_DEVICE_END, 0), 0);
     end(&machine, 0x0C000000);
-    /* A device has no read backward. */
+    /* A device has no read backward; one that begins it is asked for no bytes. */
     start(&machine, 0x0C, 4);
     call = turn_until(&machine, FM_CALL_INITIAL);
     EXPECT(call.code, 0x0C);
     EXPECT(answer_by(&machine, &call, FM_ENDED, FM_UNIT_CHECK, 0), 0);
     end(&machine, 0x02000004);
+    start(&machine, 0x0C, 4);
+    call = turn_until(&machine, FM_CALL_INITIAL);
+    EXPECT(answer_by(&machine, &call, FM_BEGINS, 0, 0), 0);
+    call = turn_until(&machine, FM_CALL_FINISH);
+    EXPECT(fm_free(&machine), 0);
     /* A control command whose channel end was the initial status has device end alone at last. */
     start(&machine, 0x03, 1);
     call = turn_until(&machine, FM_CALL_INITIAL);
@@ -720,6 +753,9 @@ int main(void)
     handles();
     before_start();
     settings();
+    choices(0, 0x00, 0x04010000);
+    choices(1, 0x01, 0x04020000);
+    choices(0x80000000, 0x01, 0x04020000);
     sizes();
     arguments();
     rooms();

@@ -317,10 +317,15 @@ def examples_in_python(bench: Bench) -> str:
         check_example(bench, name, bench.run([sys.executable, HOST / f"examples/{name}.py"], environment=in_python(bench)))
     came = bench.run([sys.executable, HOST / "examples/bench_driver.py"], environment=in_python(bench))
     ends = re.findall(r"^ *(\d+) runs ended with: (.*)$", came, re.M)
-    if len(ends) != 1 or ends[0][1] != "written" or int(ends[0][0]) < 100:
-        raise Failed(came[-2000:])
-    runs = ends[0][0]
-    return f"first_write, emulator as in C, bench_driver with {runs} runs"
+    scenes = [{int(point) for point in re.findall(r"^ {3,4}(\d+)  ", scene, re.M)} for scene in came.split("\n\n")[:-1]]
+    all_points = sum(len(points) for points in scenes)
+    # No point is left out, each run ends with the data written, and there are more orders than points.
+    if [points == set(range(max(10, len(points)))) for points in scenes] != [True, True] or ends != [(ends[0][0], "written")]:
+        raise Failed(came[-3000:])
+    runs = int(ends[0][0])
+    if runs <= all_points:
+        raise Failed(f"{runs} orders over {all_points} points")
+    return f"first_write, emulator as in C, bench_driver with {runs} runs over {all_points} points"
 
 
 def programs_in_python(bench: Bench) -> str:
