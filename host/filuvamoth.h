@@ -27,7 +27,7 @@
  *   FM_OTHER_SIZE       an event: storage is not of the size that was started with, or has keys, but not one for each block
  *   FM_NUMBERS_USED_UP  an event: 2^62 - 1 events were accepted
  *   FM_NO_MEMORY        a setting, fm_new, fm_start, fm_line; another event only where a history is kept
- * Arguments that the call does not take (FM_BAD_ARGUMENT) are seen first, before the handle.
+ * An argument that a call does not take (FM_BAD_ARGUMENT) may be seen before the handle is.
  * Numbers of bits, bytes and codes are those of SA22-7832; bit 0 is the leftmost.
  */
 #ifndef FILUVAMOTH_H

@@ -150,7 +150,7 @@ def in_module(header: str, tree: ast.Module, names: List[str]) -> Iterator[str]:
     called = ast.unparse(lists["_CALLS"]).split("'")[1].replace("\\n", " ").split()
     wanted_names = {name.removeprefix("fm_") for name in names} - {"version"}
     for name in sorted(wanted_names ^ set(called)):
-        yield f"filuvamoth.py: fm_{name} is {'called' if name in called else 'not called'}, and {'' if name in wanted_names else 'not '}declared"
+        yield f"filuvamoth.py: fm_{name} is {'called, and not declared' if name in called else 'declared, and not called'}"
 
 
 def names_of(library: str) -> List[str]:

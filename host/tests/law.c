@@ -501,6 +501,61 @@ static void seen(void)
     EXPECT(fm_free(&machine), 0);
 }
 
+/* ---- Prefixes -------------------------------------------------------------------------------------------------------------------- */
+
+static uint32_t word_at(uint32_t address)
+{
+    const uint8_t *at = guest + address;
+    return (uint32_t)at[0] << 24 | (uint32_t)at[1] << 16 | (uint32_t)at[2] << 8 | at[3];
+}
+
+/* CPU 1 has its first 8,192 bytes at 4000: each instruction fetches its operand from there, and stores it there. */
+static void prefixes(void)
+{
+    enum { AREA = 0x4000, CPU = 1 };
+    fm_machine machine;
+    uint32_t at;
+    open_machine(&machine);
+    EXPECT(fm_set_prefix(&machine, FM_LENT(&storage), CPU, AREA), 0);
+    memset(guest, 0, sizeof guest);
+    EXPECT(fm_enable(&machine, FM_LENT(&storage), CPU, WORD, 5, 1), 0);
+    /* Word 1 of a SCHIB (docs/SHEETS.md) with subclass 5, E, D, V and the device number 0100; nothing at F00 itself. */
+    EXPECT(word_at(AREA + 0xF04), 0x28850100);
+    EXPECT(word_at(0xF04), 0);
+    EXPECT(fm_stsch(&machine, FM_LENT(&storage), CPU, WORD, 0x700), 0);
+    EXPECT(word_at(AREA + 0x704), 0x28850100);
+    EXPECT(word_at(0x704), 0);
+    guest[AREA + 0x704] = 0x10;
+    EXPECT(fm_msch(&machine, FM_LENT(&storage), CPU, WORD, 0x700), 0);
+    EXPECT(fm_stsch(&machine, FM_LENT(&storage), 0, WORD, 0x700), 0);
+    EXPECT(word_at(0x704), 0x10850100);
+    store_program(0x01, 4);
+    memcpy(guest + AREA + 0x500, guest + 0x500, 12);
+    memset(guest + 0x500, 0xFF, 12);
+    EXPECT(fm_ssch(&machine, FM_LENT(&storage), CPU, WORD, 0x500), 0);
+    EXPECT(fm_hsch(&machine, FM_LENT(&storage), CPU, WORD), 0);
+    for (at = 0; at < 4; at++) {
+        fm_turn_subchannel(&machine, FM_LENT(&storage), WORD);
+    }
+    EXPECT(fm_requests(&machine), 0x80 >> 2);
+    EXPECT(fm_tpi(&machine, FM_LENT(&storage), CPU, 0xFF, 0x740), 1);
+    EXPECT(word_at(AREA + 0x740), WORD);
+    EXPECT(word_at(0x740), 0);
+    EXPECT(fm_tsch(&machine, FM_LENT(&storage), CPU, WORD, 0x600), 0);
+    EXPECT(word_at(AREA + 0x600) & 1, 1);
+    EXPECT(word_at(0x600), 0);
+    EXPECT(fm_path_down(&machine, FM_LENT(&storage), OTHER), 0);
+    EXPECT(fm_stcrw(&machine, FM_LENT(&storage), CPU, 0x780), 0);
+    EXPECT(word_at(AREA + 0x780), 0x04060000 | OTHER);
+    EXPECT(word_at(0x780), 0);
+    EXPECT(fm_path(&machine, OTHER), FM_PATH_DOWN);
+    EXPECT(fm_path(&machine, PATH), FM_PATH_UP);
+    memset(guest + AREA + 0x7A0, 0xFF, 32);
+    EXPECT(fm_stcps(&machine, FM_LENT(&storage), CPU, 0x7A0), 0);
+    EXPECT(word_at(AREA + 0x7A0), 0);
+    EXPECT(fm_free(&machine), 0);
+}
+
 /* ---- Keys ------------------------------------------------------------------------------------------------------------------------ */
 
 /* Keys that are lent count, and their bit 7 does not; without them those in the machine do. A block of key 3 with fetch protection is
@@ -669,6 +724,8 @@ static void devices_that_write(void)
     EXPECT(answer_by(&machine, &call, FM_BEGINS, 0, 0), FM_NOT_NOW);
     call = turn_until(&machine, FM_CALL_ABSORB);
     EXPECT(call.count, 4);
+    EXPECT(fm_path(&machine, PATH), FM_PATH_ENGAGED);
+    EXPECT(fm_path(&machine, OTHER), FM_PATH_UP);
     refuse(&machine, &call, FM_ENDED, FM_CHANNEL_END | FM_DEVICE_END, 0);
     refuse(&machine, &call, FM_ABSORBED, 0, 5);
     refuse(&machine, &call, FM_ABSORBED, 0, 0xFFFF);
@@ -732,6 +789,38 @@ static void devices_that_read(void)
     EXPECT(fm_free(&machine), 0);
 }
 
+/* What else a unit is to do: a signal, a program that is away from its path, with a path to ask for and without. */
+static void units_away(void)
+{
+    fm_machine machine;
+    fm_call call;
+    uint8_t bytes[256];
+    start(&machine, 0x01, 4);
+    EXPECT(fm_work(&machine, UNIT, &call, bytes, sizeof bytes), FM_RESTS);
+    EXPECT(fm_choose(&machine, FM_LENT(&storage), WORD), FM_OFFERED);
+    EXPECT(fm_work(&machine, UNIT, &call, bytes, sizeof bytes), FM_SIGNAL_DUE);
+    EXPECT(call.kind, FM_CALL_NONE);
+    turn_until(&machine, FM_CALL_INITIAL);
+    EXPECT(fm_unit_leave(&machine, FM_LENT(&storage), UNIT), 0);
+    EXPECT(fm_turn_subchannel(&machine, FM_LENT(&storage), WORD), FM_TURNED);
+    memset(&call, 0xFF, sizeof call);
+    EXPECT(fm_work(&machine, UNIT, &call, bytes, sizeof bytes), FM_AWAY);
+    EXPECT(call.kind == FM_CALL_NONE && call.from_path == 0 && call.number == 0, 1);
+    EXPECT(fm_turn_unit(&machine, FM_LENT(&storage), UNIT), FM_NOTHING_DUE);
+    EXPECT(fm_path_down(&machine, FM_LENT(&storage), PATH), 0);
+    EXPECT(fm_work(&machine, UNIT, &call, bytes, sizeof bytes), FM_AWAY_WAITS);
+    EXPECT(fm_unit_ask(&machine, FM_LENT(&storage), UNIT, 1), FM_NO_SUCH_PATH);
+    EXPECT(fm_free(&machine), 0);
+    start(&machine, 0x01, 4);
+    turn_until(&machine, FM_CALL_INITIAL);
+    EXPECT(fm_unit_leave(&machine, FM_LENT(&storage), UNIT), 0);
+    EXPECT(fm_unit_leave(&machine, FM_LENT(&storage), UNIT), FM_NOT_NOW);
+    EXPECT(fm_unit_ask(&machine, FM_LENT(&storage), UNIT, 0), 0);
+    call = turn_until(&machine, FM_CALL_INITIAL);
+    EXPECT(answer_by(&machine, &call, FM_ENDED, FM_UNIT_CHECK, 0), 0);
+    end(&machine, 0x02000004);
+}
+
 /* A call that a reset made stale. */
 static void devices_too_late(void)
 {
@@ -760,9 +849,11 @@ int main(void)
     arguments();
     rooms();
     seen();
+    prefixes();
     keys_lent();
     devices_that_write();
     devices_that_read();
+    units_away();
     devices_too_late();
     printf("checks %u otherwise %u\n", checks, otherwise);
     return otherwise == 0 ? 0 : 1;

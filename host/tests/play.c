@@ -2,8 +2,8 @@
  *
  *     play [-b lines|calls|value] [-k] [-h] SCRIPT.chs.. [-c LIST..]
  *
- * -b how actions are performed; -k keys are lent; -h a history is kept. SCRIPT.out has what is stored. Each line of a LIST is `SCRIPT -> WANTED`, where ` / ` parts the lines of a script, and
- * WANTED is `script ok` or `bad line L rule N`.
+ * -b how actions are performed; -k keys are lent; -h a history is kept. SCRIPT.out has what is stored. Each line of a LIST is
+ * `SCRIPT -> WANTED`, where ` / ` parts the lines of a script, and WANTED is `script ok` or `bad line L rule N`.
  */
 #include "stored.h"
 

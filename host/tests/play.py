@@ -353,7 +353,8 @@ class Player:
         return "done"
 
     def short(self, words: List[bytes]) -> str:
-        names = {b"leave": "unit_leave", b"restart": "unit_restart", b"pathdown": "path_down", b"pathup": "path_up", b"pathreset": "path_reset"}
+        names = {b"leave": "unit_leave", b"restart": "unit_restart"}
+        names.update({b"pathdown": "path_down", b"pathup": "path_up", b"pathreset": "path_reset"})
         if words == [b"sysreset"]:
             self.machine.system_reset()
         elif words[0] == b"choose" and len(words) == 2:

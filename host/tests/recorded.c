@@ -186,7 +186,8 @@ static void perform(run *here, const char *whole, size_t length)
         }
     } else {
         size_t written = 0;
-        int32_t number = fm_line(&here->machine, FM_LENT(&here->storage), (const uint8_t *)whole, length, (uint8_t *)here->text, MOST_TEXT, &written);
+        int32_t number = fm_line(&here->machine, FM_LENT(&here->storage), (const uint8_t *)whole, length, (uint8_t *)here->text, MOST_TEXT,
+                                 &written);
         if (written == 0) {
             stop(here, "fm_line wrote no text", number);
         }

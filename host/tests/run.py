@@ -45,8 +45,8 @@ LEAST_PROGRAMS = 20000
 RECORDED = {"firmware-ipl.run": (304, 0), "linux-recognition.run": (188, 0), "altered.run": (39, 2)}
 #: Scripts whose allocations are refused in turn.
 REFUSED = [
-    "first-write", "read", "console", "search-read-lose-path", "two-sides", "share-control-unit", "chain-lists", "clear", "halt", "attention",
-    "lesson-5-two-paths", "reset-path", "reports", "sense", "full-wire", "subchannel-sets",
+    "first-write", "read", "console", "search-read-lose-path", "two-sides", "share-control-unit", "chain-lists", "clear", "halt",
+    "attention", "lesson-5-two-paths", "reset-path", "reports", "sense", "full-wire", "subchannel-sets",
 ]
 
 
@@ -140,9 +140,8 @@ def play(bench: Bench, program: Sequence[object], environment: Optional[Dict[str
                 raise Failed(f"{values} operands by value, and {bench.values} in another build")
         rows = bench.run([*program, "-b", by, *options, "-c", *bench.lists], environment=environment)
         must_be(rows, {"listed": counts.rows, "otherwise": 0})
-    return (
-        f"{counts.scripts} scripts of {counts.actions} actions and {counts.rows} rows in {len(ways)} ways as stored, {counts.races} races left out"
-    )
+    whole = f"{counts.scripts} scripts of {counts.actions} actions and {counts.rows} rows"
+    return f"{whole} in {len(ways)} ways as stored, {counts.races} races left out"
 
 
 def flags(compiler: str, kind: List[str]) -> List[object]:
@@ -367,11 +366,12 @@ def installed(bench: Bench) -> str:
     bench.run([TOP / "tools/install", "--library-only", "--from", bench.top, prefix])
     compiler = "gcc" if "gcc" not in bench.without else "clang"
     if shutil.which("pkg-config"):
-        release = bench.run(["pkg-config", "--modversion", "filuvamoth"], environment={"PKG_CONFIG_PATH": str(prefix / "lib/pkgconfig")})
+        there = {"PKG_CONFIG_PATH": str(prefix / "lib/pkgconfig")}
+        release = bench.run(["pkg-config", "--modversion", "filuvamoth"], environment=there)
         version = "import filuvamoth; print(*filuvamoth.version(), sep='.')"
         if release != bench.run([sys.executable, "-c", version], environment=in_python(bench)):
             raise Failed(f"filuvamoth.pc.in is of {release}, the library is not")
-        words = bench.run(["pkg-config", "--cflags", "--libs", "filuvamoth"], environment={"PKG_CONFIG_PATH": str(prefix / "lib/pkgconfig")}).split()
+        words = bench.run(["pkg-config", "--cflags", "--libs", "filuvamoth"], environment=there).split()
     else:
         words = [f"-I{prefix}/include", f"-L{prefix}/lib", "-lfiluvamoth"]
     program = bench.built("first_write-installed", [compiler, HOST / "examples/first_write.c", *words, f"-Wl,-rpath,{prefix}/lib"])
@@ -380,8 +380,10 @@ def installed(bench: Bench) -> str:
     came = bench.run([sys.executable, HOST / "examples/first_write.py"], environment=found)
     check_example(bench, "first_write", came)
     if "man" not in bench.without:
-        page = bench.run(["man", "--warnings", "-l", prefix / "share/man/man3/filuvamoth.3"], environment={"MANWIDTH": "100", "LC_ALL": "C.UTF-8"})
-        unnamed = [name for name in re.findall(r"^\w+ (fm_\w+)\(", (HOST / "filuvamoth.h").read_text("utf-8"), re.M) if f"{name}()" not in page]
+        plain = {"MANWIDTH": "100", "LC_ALL": "C.UTF-8"}
+        page = bench.run(["man", "--warnings", "-l", prefix / "share/man/man3/filuvamoth.3"], environment=plain)
+        names = re.findall(r"^\w+ (fm_\w+)\(", (HOST / "filuvamoth.h").read_text("utf-8"), re.M)
+        unnamed = [name for name in names if f"{name}()" not in page]
         if unnamed:
             raise Failed(f"the manual page does not name {unnamed}")
     return "what is installed builds and runs the first example, in C and in Python"
@@ -469,7 +471,8 @@ def run_all(bench: Bench, jobs: int, only: Optional[str]) -> int:
     failed = 0
     checks = [it for it in checks_of(bench) if only is None or re.search(only, it[0])]
     # What is timed runs alone, at the end, and then what was measured is compared.
-    alone: List[Tuple[str, Callable[[], str]]] = [("Python programs", partial(programs_in_python, bench)), ("figures", partial(figures, bench))]
+    alone: List[Tuple[str, Callable[[], str]]] = [("Python programs", partial(programs_in_python, bench))]
+    alone.append(("figures", partial(figures, bench)))
     alone = [it for it in alone if only is None or re.search(only, it[0])]
     with ThreadPoolExecutor(jobs) as pool:
         futures: List[Future[Tuple[str, bool, str, float]]] = [pool.submit(run_one, *it) for it in checks]

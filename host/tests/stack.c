@@ -102,7 +102,10 @@ static void turns(void)
         MEASURE(fm_work(&machine, UNIT, &call, bytes, sizeof bytes));
         if (call.kind != FM_CALL_NONE) {
             fm_answer answer = { FM_ENDED, FM_CHANNEL_END | FM_DEVICE_END, 0, 0 };
-            answer.kind = call.kind == FM_CALL_INITIAL ? FM_BEGINS : call.kind == FM_CALL_ABSORB ? FM_ABSORBED : call.kind == FM_CALL_SUPPLY ? FM_SUPPLIED : FM_ENDED;
+            answer.kind = call.kind == FM_CALL_INITIAL ? FM_BEGINS
+                          : call.kind == FM_CALL_ABSORB ? FM_ABSORBED
+                          : call.kind == FM_CALL_SUPPLY ? FM_SUPPLIED
+                                                        : FM_ENDED;
             answer.count = call.kind == FM_CALL_ABSORB ? call.count : 0;
             MEASURE(fm_report(&machine, LENT, UNIT, &call, &answer, supplied, call.kind == FM_CALL_SUPPLY ? call.count : 0));
         }
