@@ -16,7 +16,7 @@
  *     it is not; nor are the handle and what is told by a pointer without a count.
  *   - What is passed to one call does not overlap, and none of it overlaps the handle.
  *   - Nobody reads or stores into what is lent while the call runs: neither a CPU of the guest nor another thread.
- *   - There are 72 KiB of stack for fm_start, and 12 KiB for any other call, below the frame that makes it.
+ *   - There are 56 KiB of stack for fm_start, and 12 KiB for any other call, below the frame that makes it.
  *   - No call is made from a signal handler, or while another call on the same handle is interrupted.
  *   - The fields of fm_machine are left alone, and are zero when it is first used: `open` is 0 or 1.
  *

@@ -37,8 +37,6 @@ SANITIZERS = {
     "address+undefined": ["-O1", "-g", "-fsanitize=address,undefined", "-fno-sanitize-recover=all", "-fno-omit-frame-pointer"],
 }
 THREADS = {"plain": ["-O2"], "thread": ["-O1", "-g", "-fsanitize=thread"]}
-#: As much stack as filuvamoth.h asks for: of fm_start, and of any other call.
-STACK_OF_START, STACK = 72 * 1024, 12 * 1024
 #: The least programs a second through Python.
 LEAST_PROGRAMS = 20000
 #: How many lines the recorded runs have, and how many of them are answered otherwise: two of altered.run were altered.
@@ -276,11 +274,14 @@ def stack(bench: Bench) -> str:
     compiler = "gcc" if "gcc" not in bench.without else "clang"
     program = bench.built("stack", [*flags(compiler, ["-O2"]), "-pthread", HERE / "stack.c", bench.archive])
     said = []
+    asked = re.search(r"(\d+) KiB of stack for fm_start, and (\d+) KiB", (HOST / "filuvamoth.h").read_text("utf-8"))
+    if not asked:
+        raise Failed("filuvamoth.h asks for no stack")
     ways: Dict[str, List[object]] = {"seen": [program], "bound": [sys.executable, HERE / "frames.py", TOP, bench.shared]}
     for name, words in ways.items():
         found = {call: int(most) for call, most in re.findall(r"^(fm_\w+) (\d+)$", bench.run(words), re.M)}
         start, other = found.pop("fm_start"), max(found.values())
-        if len(found) < 40 or start > STACK_OF_START or other > STACK:
+        if len(found) < 40 or start > 1024 * int(asked[1]) or other > 1024 * int(asked[2]):
             raise Failed(f"{name}: fm_start takes {start} bytes of stack, one of {len(found)} others {other}")
         bench.measured[f"{name}_start"], bench.measured[f"{name}_other"] = start, other
         said.append(f"{name}: fm_start {start}, another {other} at most")
@@ -325,6 +326,12 @@ def examples_in_python(bench: Bench) -> str:
     if runs <= all_points:
         raise Failed(f"{runs} orders over {all_points} points")
     return f"first_write, emulator as in C, bench_driver with {runs} runs over {all_points} points"
+
+
+def refusals_in_python(bench: Bench) -> str:
+    came = bench.run([sys.executable, HERE / "law.py"], environment=in_python(bench))
+    must_be(came, {"otherwise": 0})
+    return f"{number_in(came, 'checks')} exceptions and devices that err"
 
 
 def programs_in_python(bench: Bench) -> str:
@@ -445,6 +452,7 @@ def checks_of(bench: Bench) -> List[Tuple[str, Callable[[], str]]]:
     add("", "stack", stack)
     add("valgrind", "instructions", instructions)
     add("", "Python examples", examples_in_python)
+    add("", "Python refusals", refusals_in_python)
     add("mypy", "Python types", typed)
     add("nm", "declared", declared)
     add("nm", "needs", needs)
