@@ -70,6 +70,7 @@ enum fm_refusal {
     FM_SPECIFICATION = -0x106,
     FM_OPERAND = -0x115,
     /* rules of configurations: -0x200 less the number of the rule that is broken; rule 1 is of scripts alone */
+    FM_RULE_STORAGE_SIZE = -0x201,          /* a storage line stands once, with 10 to 1000 (hexadecimal) blocks */
     FM_RULE_CHANNEL_PATH = -0x202,          /* a channel path is given once, by an identifier of at most 255 */
     FM_RULE_UNIT_NUMBER = -0x203,           /* a unit has the next number, of at most 1023 */
     FM_RULE_UNIT_OF_SUBCHANNEL = -0x204,    /* the unit of a subchannel is known, and one other subchannel at most has it */
@@ -133,13 +134,17 @@ int32_t fm_set_concurrent_sense(fm_machine *machine, uint32_t kept);
  * wants. */
 int32_t fm_set_path_return(fm_machine *machine, uint32_t initialized);
 
+/* The first line of a text, one of a script that configures a machine: storage, sets, path, unit, share or sub. The kind that a unit line
+ * names counts for nothing. 0, or -0x300 less the rule of lines, or -0x200 less the rule of configurations that it breaks. */
+int32_t fm_set_up_line(fm_machine *machine, const uint8_t *line, size_t length);
+
 enum fm_history {
     FM_KEEP_NONE = 0,   /* no history: no call after fm_start takes memory but fm_line, for a line's words while it runs */
     FM_KEEP_ALL = 1     /* each accepted event is kept with its reply, until fm_free. Calls that tell of them are to come. */
 };
 
-/* The machine runs, for storage of so many blocks of 4,096 bytes, 16 to 524,288 (2 GiB), with keys and prefixes of zero. `history` is an
- * fm_history. FM_BAD_ARGUMENT, FM_NO_MEMORY: then it is set up as it was. */
+/* The machine runs, for storage of so many blocks of 4,096 bytes, 16 to 524,288 (2 GiB), with keys and prefixes of zero; 0 blocks are as
+ * many as a storage line says. `history` is an fm_history. FM_BAD_ARGUMENT, FM_NO_MEMORY: then it is set up as it was. */
 int32_t fm_start(fm_machine *machine, uint32_t blocks, uint32_t history);
 
 /* ---- Storage that is lent ------------------------------------------------------------------------------------------------------ */

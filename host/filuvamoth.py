@@ -98,6 +98,7 @@ _NAMES = {
     INTERRUPTION - 0x05: "addressing exception",
     INTERRUPTION - 0x06: "specification exception",
     INTERRUPTION - 0x15: "operand exception",
+    CONFIGURATION_RULE - 1: "the size of storage breaks its rule",
     CONFIGURATION_RULE - 2: "a channel path breaks its rule",
     CONFIGURATION_RULE - 3: "a unit's number breaks its rule",
     CONFIGURATION_RULE - 4: "the unit of a subchannel breaks its rule",
@@ -141,8 +142,8 @@ class ProgramInterruption(FiluvamothError):
 # ---- The library --------------------------------------------------------------------------------------------------------------------
 
 _CALLS = """
-    new free set_sets add_path add_unit share add_subchannel set_concurrent_sense set_path_return start
-    ssch tsch stsch msch rsch hsch csch xsch tpi rchp stcrw stcps enable
+    new free set_sets add_path add_unit share add_subchannel set_concurrent_sense set_path_return set_up_line
+    start ssch tsch stsch msch rsch hsch csch xsch tpi rchp stcrw stcps enable
     ssch_orb msch_schib stsch_schib tsch_irb tpi_code stcrw_word stcps_bytes
     turn_subchannel turn_unit choose up down work report
     unit_leave unit_ask unit_attention unit_notice unit_restart path_down path_up path_reset system_reset
@@ -557,6 +558,20 @@ class Machine:
     def set_path_return(self, initialized: bool) -> None:
         """Whether a channel path that is back is reported as initialized, which Linux wants, or as available."""
         self._set("set_path_return", int(initialized))
+
+    def set_up_line(self, line: str, device: Optional[Device] = None) -> None:
+        """A line of a script that configures a machine: storage, sets, path, unit, share or sub. The kind of a ``unit`` line counts for
+        nothing: its device is this one, which such a line wants."""
+        words = line.split(" ")
+        if (words[0] == "unit") != (device is not None):
+            raise ValueError("a line of a unit, and no other, has a device")
+        data = line.encode("utf-8")
+        self._set("set_up_line", data, _size(len(data)))
+        if device is not None:
+            self._devices.append(device)
+        if words[0] == "sub":
+            number = int(words[1], 16)
+            self._subchannels.append(number if len(words[1]) > 4 else 0x10000 + number)
 
     def start(self, storage: Any, keys: Any = None, history: bool = False, blocks: Optional[int] = None) -> None:
         """The machine runs on this storage, of 4,096 bytes for each block, 16 to 524,288. ``keys`` has a byte for each block, its storage

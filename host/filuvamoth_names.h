@@ -25,6 +25,7 @@ static inline const char *fm_name(int32_t number)
     case FM_ADDRESSING: return "addressing exception";
     case FM_SPECIFICATION: return "specification exception";
     case FM_OPERAND: return "operand exception";
+    case FM_RULE_STORAGE_SIZE: return "the size of storage breaks its rule";
     case FM_RULE_CHANNEL_PATH: return "a channel path breaks its rule";
     case FM_RULE_UNIT_NUMBER: return "a unit's number breaks its rule";
     case FM_RULE_UNIT_OF_SUBCHANNEL: return "the unit of a subchannel breaks its rule";

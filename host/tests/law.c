@@ -61,6 +61,7 @@ static void try_all(fm_machine *machine, int32_t of_setting, int32_t of_event)
     EXPECT(fm_add_subchannel(machine, WORD, 0x100, 0, paths, 1), of_setting);
     EXPECT(fm_set_concurrent_sense(machine, 1), of_setting);
     EXPECT(fm_set_path_return(machine, 1), of_setting);
+    EXPECT(fm_set_up_line(machine, (const uint8_t *)"path 10", 7), of_setting);
     EXPECT(fm_start(machine, BLOCKS, FM_KEEP_NONE), of_setting);
     EXPECT(fm_ssch(machine, FM_LENT(&storage), 0, WORD, 0x500), of_event);
     EXPECT(fm_tsch(machine, FM_LENT(&storage), 0, WORD, 0x600), of_event);
@@ -209,6 +210,39 @@ static void settings(void)
     EXPECT(fm_set_sets(&machine, 2), FM_AT_OTHER_STAGE);
     EXPECT(fm_set_concurrent_sense(&machine, 0), FM_AT_OTHER_STAGE);
     EXPECT(fm_set_path_return(&machine, 0), FM_AT_OTHER_STAGE);
+    EXPECT(fm_free(&machine), 0);
+}
+
+static int32_t set_up(fm_machine *machine, const char *line)
+{
+    return fm_set_up_line(machine, (const uint8_t *)line, strlen(line));
+}
+
+/* The lines of a script that set a machine up, and what is no such line. */
+static void lines_of_the_setup(void)
+{
+    fm_machine machine = FM_MACHINE_INIT;
+    uint8_t schib[52];
+    EXPECT(fm_new(&machine), 0);
+    EXPECT(fm_start(&machine, 0, FM_KEEP_NONE), FM_BAD_ARGUMENT);
+    EXPECT(set_up(&machine, "storage 10"), 0);
+    EXPECT(set_up(&machine, "storage 10"), FM_RULE_STORAGE_SIZE);
+    EXPECT(set_up(&machine, "path 10\npath 11"), 0);
+    EXPECT(set_up(&machine, "path 10"), FM_RULE_CHANNEL_PATH);
+    EXPECT(set_up(&machine, "unit 0 console"), 0);
+    EXPECT(set_up(&machine, "unit 0 block"), FM_RULE_UNIT_NUMBER);
+    EXPECT(set_up(&machine, "sub 0 190 0 11"), FM_RULE_PATHS_OF_SUBCHANNEL);
+    EXPECT(set_up(&machine, "sub 0 190 0 10"), 0);
+    EXPECT(set_up(&machine, "choose 0"), FM_LINE_UNKNOWN_WORD);
+    EXPECT(set_up(&machine, ""), FM_LINE_UNKNOWN_WORD);
+    EXPECT(fm_set_up_line(&machine, NULL, 0), FM_LINE_UNKNOWN_WORD);
+    EXPECT(set_up(&machine, "sets"), FM_LINE_WRONG_COUNT);
+    EXPECT(set_up(&machine, "path 1G"), FM_LINE_BAD_WORD);
+    EXPECT(fm_start(&machine, 0, FM_KEEP_NONE), 0);
+    EXPECT(set_up(&machine, "path 11"), FM_AT_OTHER_STAGE);
+    EXPECT(fm_stsch_schib(&machine, 0, WORD, schib, sizeof schib), 0);
+    EXPECT(schib[6] * 256 + schib[7], 0x190);
+    EXPECT(fm_choose(&machine, FM_LENT(&storage), WORD), 0);
     EXPECT(fm_free(&machine), 0);
 }
 
@@ -842,6 +876,7 @@ int main(void)
     handles();
     before_start();
     settings();
+    lines_of_the_setup();
     choices(0, 0x00, 0x04010000);
     choices(1, 0x01, 0x04020000);
     choices(0x80000000, 0x01, 0x04020000);

@@ -1,6 +1,7 @@
 //! Setting a machine up: between `fm_new` and `fm_start`. A refused call changes nothing.
 
-ghost use Rattle.filuvamoth.specs.Calls.{BeginsAt, SetsUpAt};
+ghost use Rattle.filuvamoth.specs.Calls.{BeginsAt, SetsUpAt, WhereOpen};
+ghost use Rattle.host_machine.specs.SettingLines.{SetsUpLine};
 ghost use Rattle.filuvamoth.specs.Calls as spec;
 ghost use Rattle.host_machine.specs.declared.setting_up.HostSetting.TheVariants as setting;
 ghost use Rattle.std.specs.Prelude.{◌≡◌, ◌==◌, if◌then◌else◌};
@@ -95,6 +96,23 @@ pub extern "C" fn fm_set_path_return(alloc: Global, handle: &mut Handle, initial
     set_up(alloc, handle, &HostSetting::PathReturn(choice))
 }
 
+/// The first line of a text, which is one of a script that configures a machine: `storage`, `sets`, `path`, `unit`, `share` or `sub`. The
+/// kind that a `unit` line names counts for nothing. A line that is none of these, or breaks a rule, is refused: -768 less the number of
+/// the rule of lines, or -512 less that of configurations.
+#[unsafe(no_mangle)]
+pub extern "C" fn fm_set_up_line(alloc: Global, handle: &mut Handle, line: &[u8]) -> i32
+    ensures { WhereOpen (λ before answered now. SetsUpLine line.now before answered now) (Unit {0}) handle.old.held.inside result handle.new.held.inside }
+{
+    match handle.take(alloc) {
+        None => CLOSED,
+        Some(mut inside) => {
+            let number = inside.set_up_line(alloc, line);
+            handle.put(inside);
+            number
+        }
+    }
+}
+
 /// Which entries of the history are kept, by its number.
 fn keeping_numbered(history: u32) -> Option<Keeping>
     ensures { result ≡ spec.keeping_numbered history }
@@ -106,7 +124,8 @@ fn keeping_numbered(history: u32) -> Option<Keeping>
     }
 }
 
-/// The machine that is set up runs, for storage of so many blocks of 4,096 bytes, 16 to 524,288. `history` is 0 where no history is
+/// The machine that is set up runs, for storage of so many blocks of 4,096 bytes, 16 to 524,288, or 0 for as many as a `storage` line
+/// says. `history` is 0 where no history is
 /// kept, and no call takes memory; 1 where all events are kept. Where it is refused the machine is set up as it was.
 #[unsafe(no_mangle)]
 pub extern "C" fn fm_start(alloc: Global, handle: &mut Handle, blocks: u32, history: u32) -> i32

@@ -1,5 +1,5 @@
 -- A channel subsystem as a host has it that has numbers, bytes and their lengths alone (own): first it is set up, then it runs.
-use Rattle.std.specs.Prelude.{◌≡◌, ◌⊎◌, ℕ, ℤ, pos, ◌*◌, ◌==◌, ◌&&◌, ◌||◌, Bool, IsTrue, List, [], ◌∷◌, length, replicate, Option, Some, None, Result, Ok, Err}
+use Rattle.std.specs.Prelude.{◌≡◌, ◌⊎◌, ℕ, ℤ, pos, ◌*◌, ◌==◌, ◌&&◌, ◌||◌, Bool, IsTrue, List, [], ◌∷◌, length, replicate, unwrap_or, if◌then◌else◌, Option, Some, None, Result, Ok, Err}
 use Rattle.storage_keys.specs.Storage.{Contents, are_areas, cleared_storage, lent_contents}
 use Rattle.chan_events.specs.Events.{Event}
 use Rattle.chan_events.specs.Replies.{Reply}
@@ -78,7 +78,11 @@ pub record IsStarted (setup : Setup) (blocks : ℕ) (keeping : Keeping) (r : Run
   pub keys : r.keys ≡ replicate blocks 0
   pub prefixes : r.prefixes ≡ replicate 16 0
 
+-- 0 blocks are as many as the set-up says of storage, where it says so
+abbrev pub blocks_of : Setup → ℕ → ℕ
+blocks_of setup blocks = if blocks == 0 then unwrap_or setup.blocks 0 else blocks
+
 abbrev pub Starts : HostMachine → (blocks : ℕ) → Keeping → ℤ → HostMachine → Type 0
-Starts (SettingUp setup) blocks keeping number (Runs r) = (number ≡ pos 0) × IsStarted setup blocks keeping r
-Starts (SettingUp setup) blocks keeping number (SettingUp other) = (other ≡ setup) × ((number ≡ below no_memory) ⊎ ((number ≡ below bad_argument) × (¬ IsHostSize blocks)))
+Starts (SettingUp setup) blocks keeping number (Runs r) = (number ≡ pos 0) × IsStarted setup (blocks_of setup blocks) keeping r
+Starts (SettingUp setup) blocks keeping number (SettingUp other) = (other ≡ setup) × ((number ≡ below no_memory) ⊎ ((number ≡ below bad_argument) × (¬ IsHostSize (blocks_of setup blocks))))
 Starts (Runs r) blocks keeping number new = Stays (Runs r) new number (below at_other_stage)

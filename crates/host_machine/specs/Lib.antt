@@ -4,5 +4,6 @@ pub mod Hosts
 pub mod Lines
 pub mod Looks
 pub mod Machines
+pub mod SettingLines
 pub mod Settings
 pub mod Works

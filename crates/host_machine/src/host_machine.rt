@@ -2,6 +2,7 @@
 
 ghost use Rattle.std.specs.Prelude.{◌≡◌};
 ghost use Rattle.channel_config.specs.Setup.{no_setup};
+ghost use Rattle.host_machine.specs.Hosts as spec;
 ghost use Rattle.host_machine.specs.Hosts.{Performs, Starts};
 ghost use Rattle.host_machine.specs.Works.{TurnsSubchannel, TurnsUnit};
 ghost use Rattle.host_machine.specs.declared.host_machine.HostMachine.TheVariants as variant;
@@ -61,7 +62,8 @@ impl HostMachine {
         }
     }
 
-    /// The machine that is set up runs, for storage of so many blocks of 4,096 bytes, with keys and prefixes of zero. `BAD_ARGUMENT`
+    /// The machine that is set up runs, for storage of so many blocks of 4,096 bytes, with keys and prefixes of zero; 0 blocks are as
+    /// many as a line of the set-up says of storage. `BAD_ARGUMENT`
     /// where the blocks are not 16 to 524,288, `NO_MEMORY` where there is none: then it is set up as it was.
     pub fn start(&mut self, alloc: Global, blocks: u32, keeping: Keeping) -> i32
         ensures { Starts self.old blocks keeping result self.new }
@@ -69,6 +71,7 @@ impl HostMachine {
         let HostMachine::SettingUp(config) = self else {
             return AT_OTHER_STAGE;
         };
+        let blocks = blocks_of(config, blocks);
         if blocks < 16 || blocks > 524_288 {
             return BAD_ARGUMENT;
         }
@@ -83,5 +86,16 @@ impl HostMachine {
                 NO_MEMORY
             }
         }
+    }
+}
+
+/// How many blocks storage has: so many, or where that is 0 as many as the set-up says.
+fn blocks_of(config: &Config, blocks: u32) -> u32
+    ensures { result ≡ spec.blocks_of config.now blocks }
+{
+    if blocks == 0 {
+        config.blocks().unwrap_or(0)
+    } else {
+        blocks
     }
 }

@@ -46,7 +46,7 @@ pub fn line_number(rule: LineRule) -> i32
 }
 
 /// The words of the first line of a text.
-fn words_of(alloc: Global, text: &[u8]) -> Result<Vec<&[u8]>, AllocError>
+pub(crate) fn words_of(alloc: Global, text: &[u8]) -> Result<Vec<&[u8]>, AllocError>
     ensures { IfOk result (λ words. map (λ w. w.now) words.items ≡ spec.words_of text.now) }
 {
     let mut words = Vec::new(alloc);

@@ -1,13 +1,20 @@
 //! Setting a machine up, call by call.
 
+ghost use Rattle.std.specs.Prelude.{map};
 ghost use Rattle.channel_config.specs.Refusing.{Configures};
 ghost use Rattle.host_machine.specs.Hosts.{SetsUp};
 ghost use Rattle.host_machine.specs.Settings as spec;
+ghost use Rattle.host_machine.specs.SettingLines.{SetsUpLine, TakesLine, TakesWords};
 
-use crate::answers::{AT_OTHER_STAGE, config_number};
+use crate::answers::{AT_OTHER_STAGE, NO_MEMORY, config_number};
 use crate::host_machine::HostMachine;
+use crate::lines::{line_number, words_of};
 use channel_config::config::{Config, ConfigFault};
 use channel_config::parts::{ConcurrentSense, PathReturn, UnitKind};
+use memory::Allocator;
+use script_rows::settings::{self, setting_row};
+use script_rows::words::{LineFault, LineRule};
+use std::alloc::Global;
 
 /// What a call says of the set-up.
 #[derive(Clone, Copy)]
@@ -68,6 +75,45 @@ impl HostMachine {
     {
         match self {
             HostMachine::SettingUp(config) => config_number(configure(config, setting)),
+            HostMachine::Runs(_) => AT_OTHER_STAGE,
+        }
+    }
+}
+
+/// What the words of a line say of the set-up: 0, or less where the line or its setting is refused.
+fn set_up_words(alloc: Global, config: &mut Config, words: &[&[u8]]) -> i32
+    ensures { TakesWords (map (λ w. w.now) words.now) config.old result config.new }
+{
+    let [first, others @ ..] = words else {
+        return line_number(LineRule::UnknownWord);
+    };
+    let mut supply = Allocator { refused: false };
+    match setting_row(alloc, &mut supply, first, others) {
+        Ok(Some(setting)) => config_number(settings::configure(&mut supply, config, &setting)),
+        Ok(None) => line_number(LineRule::UnknownWord),
+        Err(LineFault::Rule(rule)) => line_number(rule),
+        Err(LineFault::NoMemory) => NO_MEMORY,
+    }
+}
+
+/// What a line says of the set-up; `NO_MEMORY` where there is none for its words.
+fn set_up_line(alloc: Global, config: &mut Config, line: &[u8]) -> i32
+    ensures { TakesLine line.now config.old result config.new }
+{
+    match words_of(alloc, line) {
+        Ok(words) => set_up_words(alloc, config, words.as_slice()),
+        Err(_) => NO_MEMORY,
+    }
+}
+
+impl HostMachine {
+    /// The first line of a text, which is one of a script that configures a machine: `storage`, `sets`, `path`, `unit`, `share` or
+    /// `sub`. 0, or the rule that it breaks, as a line or as a setting; the kind that a `unit` line names counts for nothing.
+    pub fn set_up_line(&mut self, alloc: Global, line: &[u8]) -> i32
+        ensures { SetsUpLine line.now self.old result self.new }
+    {
+        match self {
+            HostMachine::SettingUp(config) => set_up_line(alloc, config, line),
             HostMachine::Runs(_) => AT_OTHER_STAGE,
         }
     }
