@@ -140,7 +140,7 @@ int32_t fm_set_up_line(fm_machine *machine, const uint8_t *line, size_t length);
 
 enum fm_history {
     FM_KEEP_NONE = 0,   /* no history: no call after fm_start takes memory but fm_line, for a line's words while it runs */
-    FM_KEEP_ALL = 1     /* each accepted event is kept with its reply, until fm_free. Calls that tell of them are to come. */
+    FM_KEEP_ALL = 1     /* each accepted event is kept with its reply, until fm_forget or fm_free */
 };
 
 /* The machine runs, for storage of so many blocks of 4,096 bytes, 16 to 524,288 (2 GiB), with keys and prefixes of zero; 0 blocks are as
@@ -460,6 +460,23 @@ int32_t fm_seen(fm_machine *machine, fm_told *told);
  * The number of the event's answer; or FM_LINE_UNKNOWN_WORD of `dev`, `glance`, `race`, of lines that set up and of those that are
  * none, FM_LINE_WRONG_COUNT, FM_LINE_BAD_WORD, or FM_NO_MEMORY for its words: then nothing is performed and nothing written. */
 int32_t fm_line(fm_machine *machine, FM_STORAGE, const uint8_t *line, size_t length, uint8_t *text, size_t room, size_t *written);
+
+/* ---- The history: no event, and but for fm_forget nothing changes --------------------------------------------------------------- */
+
+/* How many entries are kept, each an accepted event with its reply: with FM_KEEP_ALL all since fm_start or fm_forget, else that of the
+ * last call at most. */
+int32_t fm_history_count(fm_machine *machine, uint64_t *count);
+
+/* The entry of this number, from 0, as a line that fm_line takes, at most 590 bytes: `written` says how many stand in the room. A machine
+ * that is set up alike, on storage that was alike at fm_start, answers these lines in order as this one did, where what the CPUs stored
+ * was entered by fm_put, fm_set_key and fm_set_prefix. FM_BAD_ARGUMENT, and nothing written, where there is no such entry. */
+int32_t fm_history_line(fm_machine *machine, uint64_t index, uint8_t *text, size_t room, size_t *written);
+
+/* What fm_line writes of the reply of that entry, at most 773 bytes. */
+int32_t fm_history_reply(fm_machine *machine, uint64_t index, uint8_t *text, size_t room, size_t *written);
+
+/* The entries that are kept are let go, and their room is for others; the machine stays as it is. */
+int32_t fm_forget(fm_machine *machine);
 
 /* ---- What is passed has these sizes -------------------------------------------------------------------------------------------- */
 

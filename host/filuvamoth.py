@@ -46,7 +46,7 @@ import os
 import struct
 from dataclasses import dataclass
 from types import TracebackType
-from typing import Any, Callable, Dict, List, NamedTuple, Optional, Sequence, Tuple, Type, Union
+from typing import Any, Callable, Dict, Iterator, List, NamedTuple, Optional, Sequence, Tuple, Type, Union
 
 #: The number of the interface for which this module is.
 ABI = 1
@@ -148,6 +148,7 @@ _CALLS = """
     turn_subchannel turn_unit choose up down work report
     unit_leave unit_ask unit_attention unit_notice unit_restart path_down path_up path_reset system_reset
     put set_key set_prefix requests report_count schib irb serials path seen line
+    history_count history_line history_reply forget
 """.split()
 
 _Call = Callable[..., int]
@@ -384,6 +385,7 @@ _CALL = struct.Struct("=QQQIIIIII")
 _ANSWER = struct.Struct("=IIII")
 _TOLD = struct.Struct("=QQQIIIIIxxxx")
 _TEXT_ROOM = 640
+_ENTRY_ROOM = 1024
 _CHUNK = 256
 
 # Arguments are made once, in the form in which ctypes passes them on at once.
@@ -905,6 +907,38 @@ class Machine:
         if self._written.value == 0:
             self._must(number)
         return Line(number, self._text.raw[: self._written.value].decode("ascii"))
+
+
+    # -- the history
+
+    def history_count(self) -> int:
+        """How many entries are kept: all accepted events where :meth:`start` was asked for the history, else the last one at most."""
+        count = ctypes.c_uint64()
+        self._set("history_count", _byref(count))
+        return count.value
+
+    def _told(self, name: str, index: int) -> str:
+        room = ctypes.create_string_buffer(_ENTRY_ROOM)
+        written = ctypes.c_size_t()
+        self._set(name, ctypes.c_uint64(index), room, _size(_ENTRY_ROOM), _byref(written))
+        return room.raw[: written.value].decode("ascii")
+
+    def history_line(self, index: int) -> str:
+        """The event of an entry, from 0, as a line that :meth:`line` performs."""
+        return self._told("history_line", index)
+
+    def history_reply(self, index: int) -> str:
+        """What :meth:`line` answers of the reply of an entry."""
+        return self._told("history_reply", index)
+
+    def history(self) -> Iterator[Tuple[str, str]]:
+        """The kept entries in order: the line of each event, and its reply."""
+        for index in range(self.history_count()):
+            yield self.history_line(index), self.history_reply(index)
+
+    def forget(self) -> None:
+        """The kept entries are let go; the machine stays as it is."""
+        self._set("forget")
 
 
 _EVENTS = """

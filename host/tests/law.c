@@ -63,6 +63,8 @@ static void try_all(fm_machine *machine, int32_t of_setting, int32_t of_event)
     EXPECT(fm_set_path_return(machine, 1), of_setting);
     EXPECT(fm_set_up_line(machine, (const uint8_t *)"path 10", 7), of_setting);
     EXPECT(fm_start(machine, BLOCKS, FM_KEEP_NONE), of_setting);
+    EXPECT(fm_history_count(machine, &made), of_event);
+    EXPECT(fm_forget(machine), of_event);
     EXPECT(fm_ssch(machine, FM_LENT(&storage), 0, WORD, 0x500), of_event);
     EXPECT(fm_tsch(machine, FM_LENT(&storage), 0, WORD, 0x600), of_event);
     EXPECT(fm_stsch(machine, FM_LENT(&storage), 0, WORD, 0x600), of_event);
@@ -856,6 +858,97 @@ static void units_away(void)
 }
 
 /* A call that a reset made stale. */
+/* A write with its history kept; the device takes all. */
+static void write_with_history(fm_machine *machine)
+{
+    static const uint32_t path[1] = { PATH };
+    fm_call call;
+    uint8_t block[32];
+    memset(machine, 0, sizeof *machine);
+    memset(guest, 0, sizeof guest);
+    EXPECT(fm_new(machine), 0);
+    EXPECT(fm_add_path(machine, PATH), 0);
+    EXPECT(fm_add_unit(machine, 0), 0);
+    EXPECT(fm_add_subchannel(machine, WORD, 0x100, 0, path, 1), 0);
+    EXPECT(fm_start(machine, BLOCKS, FM_KEEP_ALL), 0);
+    store_program(0x01, 4);
+    memcpy(block, guest + 0x500, 12);
+    EXPECT(fm_put(machine, FM_LENT(&storage), 0x500, block, 12), 0);
+    memcpy(block, guest + 0x1000, 8);
+    EXPECT(fm_put(machine, FM_LENT(&storage), 0x1000, block, 8), 0);
+    memcpy(block, guest + 0x2000, 4);
+    EXPECT(fm_put(machine, FM_LENT(&storage), 0x2000, block, 4), 0);
+    EXPECT(fm_set_key(machine, FM_LENT(&storage), 0x2000, 0x18), 0);
+    EXPECT(fm_enable(machine, FM_LENT(&storage), 0, WORD, 3, 0), 0);
+    EXPECT(fm_ssch(machine, FM_LENT(&storage), 0, WORD, 0x500), 0);
+    call = turn_until(machine, FM_CALL_INITIAL);
+    EXPECT(answer_by(machine, &call, FM_BEGINS, 0, 0), 0);
+    call = turn_until(machine, FM_CALL_ABSORB);
+    EXPECT(answer_by(machine, &call, FM_ABSORBED, 0, 4), 0);
+    call = turn_until(machine, FM_CALL_FINISH);
+    EXPECT(answer_by(machine, &call, FM_ENDED, FM_CHANNEL_END | FM_DEVICE_END, 0), 0);
+}
+
+/* Another machine that is set up alike performs the lines of a history, and answers as its replies say. */
+static void replay(fm_machine *from)
+{
+    static uint8_t other[sizeof guest];
+    static const fm_storage its = { other, sizeof other, NULL, 0 };
+    static const uint32_t path[1] = { PATH };
+    fm_machine to = FM_MACHINE_INIT;
+    uint8_t line[640];
+    uint8_t reply[800];
+    uint8_t text[800];
+    size_t length;
+    size_t replied;
+    size_t written;
+    uint64_t count = 0;
+    uint64_t at;
+    memset(other, 0, sizeof other);
+    EXPECT(fm_new(&to), 0);
+    EXPECT(fm_add_path(&to, PATH), 0);
+    EXPECT(fm_add_unit(&to, 0), 0);
+    EXPECT(fm_add_subchannel(&to, WORD, 0x100, 0, path, 1), 0);
+    EXPECT(fm_start(&to, BLOCKS, FM_KEEP_NONE), 0);
+    EXPECT(fm_history_count(from, &count), 0);
+    EXPECT(count > 20, 1);
+    for (at = 0; at < count; at++) {
+        EXPECT(fm_history_line(from, at, line, sizeof line, &length), 0);
+        EXPECT(fm_history_reply(from, at, reply, sizeof reply, &replied), 0);
+        EXPECT(length > 0 && replied > 0, 1);
+        EXPECT(fm_line(&to, FM_LENT(&its), line, length, text, sizeof text, &written) >= 0, 1);
+        EXPECT(written == replied && memcmp(text, reply, written) == 0, 1);
+    }
+    EXPECT(memcmp(guest, other, sizeof guest), 0);
+    EXPECT(fm_history_line(from, count, line, sizeof line, &length), FM_BAD_ARGUMENT);
+    EXPECT(length, 0);
+    EXPECT(fm_history_reply(from, UINT64_MAX, reply, sizeof reply, &replied), FM_BAD_ARGUMENT);
+    EXPECT(replied, 0);
+    EXPECT(fm_free(&to), 0);
+}
+
+/* A history is told line by line, performed again, and let go. */
+static void histories(void)
+{
+    fm_machine machine;
+    uint64_t count = 9;
+    size_t written;
+    uint8_t text[8];
+    write_with_history(&machine);
+    replay(&machine);
+    EXPECT(fm_history_line(&machine, 0, text, 3, &written), 0);
+    EXPECT(written == 3 && memcmp(text, "put", 3) == 0, 1);
+    EXPECT(fm_forget(&machine), 0);
+    EXPECT(fm_history_count(&machine, &count), 0);
+    EXPECT(count, 0);
+    EXPECT(fm_history_line(&machine, 0, text, sizeof text, &written), FM_BAD_ARGUMENT);
+    end(&machine, 0x0C000000);
+    open_machine(&machine);
+    EXPECT(fm_history_count(&machine, &count), 0);
+    EXPECT(count, 1);
+    EXPECT(fm_free(&machine), 0);
+}
+
 static void devices_too_late(void)
 {
     fm_machine machine;
@@ -889,6 +982,7 @@ int main(void)
     devices_that_write();
     devices_that_read();
     units_away();
+    histories();
     devices_too_late();
     printf("checks %u otherwise %u\n", checks, otherwise);
     return otherwise == 0 ? 0 : 1;

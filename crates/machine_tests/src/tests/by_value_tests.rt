@@ -77,9 +77,9 @@ fn is_quiet(subsystem: &mut ChannelSubsystem<Rotating>) -> bool {
     unreported && disengaged
 }
 
-/// Whether TEST SUBCHANNEL gives out the status of a write with code 0, and an interruption-response block with code 1 after that.
-fn is_tested(subsystem: &mut ChannelSubsystem<Rotating>) -> bool {
-    let first = match answered(subsystem, &ByValue::Tsch) {
+/// Whether this is the status of a write with code 0, and its interruption-response block.
+fn is_written(answered: &Option<(PlainReply, Option<Block>)>) -> bool {
+    match answered {
         Some(
             (
                 Reply::Status {
@@ -90,8 +90,12 @@ fn is_tested(subsystem: &mut ChannelSubsystem<Rotating>) -> bool {
             ),
         ) => irb[..12] == SCSW[..],
         _ => false,
-    };
-    let second = match answered(subsystem, &ByValue::Tsch) {
+    }
+}
+
+/// Whether this is code 1, with an interruption-response block that shows no status.
+fn is_cleared(answered: &Option<(PlainReply, Option<Block>)>) -> bool {
+    match answered {
         Some(
             (
                 Reply::Status {
@@ -102,8 +106,14 @@ fn is_tested(subsystem: &mut ChannelSubsystem<Rotating>) -> bool {
             ),
         ) => irb[3] == 0,
         _ => false,
-    };
-    first && second
+    }
+}
+
+/// Whether TEST SUBCHANNEL gives out the status of a write with code 0, and an interruption-response block with code 1 after that.
+fn is_tested(subsystem: &mut ChannelSubsystem<Rotating>) -> bool {
+    let first = answered(subsystem, &ByValue::Tsch);
+    let second = answered(subsystem, &ByValue::Tsch);
+    is_written(&first) && is_cleared(&second)
 }
 
 /// Whether STORE SUBCHANNEL gives out a block with E and V, the device number, LPM and PIM.
@@ -132,13 +142,19 @@ fn enabled(alloc: Global) -> Option<(Host, ChannelSubsystem<Rotating>)> {
         Keeping::LastEntry,
         Rotating {},
     ).ok()?;
+    if is_prepared(&mut host, &mut subsystem) {
+        Some((host, subsystem))
+    } else {
+        None
+    }
+}
+
+/// Whether the blocks of a write are stored, and the subchannel is enabled.
+fn is_prepared(host: &mut Host, subsystem: &mut ChannelSubsystem<Rotating>) -> bool {
     host.store(0x1000, &CCW);
     host.store(0x2000, &DATA);
     let schib = enabling();
-    if !is_done(&mut subsystem, &ByValue::Msch { schib }) {
-        return None;
-    }
-    Some((host, subsystem))
+    is_done(subsystem, &ByValue::Msch { schib })
 }
 
 #[test]

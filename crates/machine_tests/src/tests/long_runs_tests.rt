@@ -43,10 +43,21 @@ fn bare(alloc: Global) -> Option<Subsystem<Lowest>> {
 fn stepped(alloc: Global, count: usize) -> Option<usize> {
     let event = tpi()?;
     let mut subsystem = bare(alloc)?;
-    for _step in 0..count {
-        subsystem.step(&event).ok()?;
+    if steps(&mut subsystem, &event, count) {
+        Some(subsystem.history().len())
+    } else {
+        None
     }
-    Some(subsystem.history().len())
+}
+
+/// Whether an event is accepted so often.
+fn steps(subsystem: &mut Subsystem<Lowest>, event: &Event, count: usize) -> bool {
+    for _step in 0..count {
+        if subsystem.step(event).is_err() {
+            return false;
+        }
+    }
+    true
 }
 
 /// How long a log is to which so many entries were added.

@@ -69,15 +69,30 @@ fn each_request_of_each_event_of_a_write_is_refused_in_turn(rt: HostRuntime) {
 
 /// Whether the events of a write after so many are run and accepted, and all is then as of a write to which nothing was refused.
 fn goes_on(alloc: Global, subsystem: &mut Subsystem<Rotating>, after: usize) -> Option<bool> {
-    let events = script(alloc);
-    if after > events.len() {
-        return None;
-    }
-    let rest = &events.as_slice()[after..];
-    let answers = subsystem.run(alloc, rest).ok()?;
-    let accepted = answers.iter().filter(|answer| answer.is_ok()).count();
+    let accepted = accepted_after(alloc, subsystem, after)?;
     let whole = begun(alloc, EVENTS)?;
     Some(after.saturating_add(accepted) == EVENTS && are_alike(subsystem, &whole))
+}
+
+/// How many events of a write after so many are accepted.
+fn accepted_after(
+    alloc: Global,
+    subsystem: &mut Subsystem<Rotating>,
+    after: usize,
+) -> Option<usize> {
+    let events = script(alloc);
+    let rest = events.as_slice().get(after..)?;
+    accepted_of(alloc, subsystem, rest)
+}
+
+/// How many of these events are accepted.
+fn accepted_of(
+    alloc: Global,
+    subsystem: &mut Subsystem<Rotating>,
+    events: &[Event],
+) -> Option<usize> {
+    let answers = subsystem.run(alloc, events).ok()?;
+    Some(answers.iter().filter(|answer| answer.is_ok()).count())
 }
 
 /// How many events of a write are accepted by a run to which so many requests are granted: what it leaves is as of a run of these
