@@ -85,7 +85,7 @@ bytes_read_from (b ∷ bs) below =
     ap (λ (o : Option ℕ). and_then o (λ x. and_then (bytes_from (flat_map byte_text bs)) (λ xs. Some (x ∷ xs)))) (pair_read b (below 0 (omega arith)))
     ∙ ap (λ (o : Option (List ℕ)). and_then o (λ xs. Some (b ∷ xs))) (bytes_read_from bs (λ k lt. below (suc k) (omega arith)))
 
-digits_length : (bytes : List ℕ) → length (flat_map byte_text bytes) ≡ 2 * length bytes
+pub digits_length : (bytes : List ℕ) → length (flat_map byte_text bytes) ≡ 2 * length bytes
 digits_length [] = refl
 digits_length (b ∷ bs) = omega (arith, digits_length bs)
 

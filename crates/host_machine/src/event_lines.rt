@@ -1,8 +1,8 @@
 //! The line of a script that asks for an event.
 
-ghost use Rattle.std.specs.Prelude.{◌≡◌, ◌++◌, ◌∷◌, [], Ok, codes};
+ghost use Rattle.std.specs.Prelude.{◌≡◌, ◌++◌, ◌∷◌, ◌≤◌, [], Ok, codes, length};
 ghost use Rattle.std.specs.List.{flat_map};
-ghost use Rattle.chan_events.specs.Events.{Event as EventValue};
+ghost use Rattle.chan_events.specs.Events.{Event as EventValue, event_bytes};
 ghost use Rattle.host_machine.specs.EventLines as spec;
 ghost use Rattle.host_machine.specs.Lines.{event_of_words, words_of};
 ghost use Rattle.host_machine.specs.Speakable.{IsSpeakable};
@@ -302,7 +302,8 @@ pub fn put_event<S: Sink>(sink: &mut S, event: &Event) -> bool
     }
 }
 
-/// The line of an event is read back as the event, where a line can ask for it.
+/// The line of an event is read back as the event, where a line can ask for it; and it is not long.
 pub fn lines_are_read_back()
-    ensures { (e : EventValue) → IsSpeakable e → event_of_words (words_of (spec.event_text e)) ≡ Ok e }
+    ensures back { (e : EventValue) → IsSpeakable e → event_of_words (words_of (spec.event_text e)) ≡ Ok e }
+    ensures long { (e : EventValue) → length (event_bytes e) ≤ 256 → length (spec.event_text e) ≤ 590 }
 {}
