@@ -1,6 +1,6 @@
 -- Words that are parted by one space each are found again.
-use Rattle.std.proofs.Common.{◌≡◌, ℕ, ◌==◌, List, [], ◌∷◌, ◌++◌, refl, sym, ap, ◌∙◌, append-nil}
-use Rattle.std.specs.Prelude.{Bool, true, false, if◌then◌else◌}
+use Rattle.std.proofs.Common.{◌≡◌, ℕ, ◌==◌, List, [], ◌∷◌, ◌++◌, refl, ap, ◌∙◌, append-nil}
+use Rattle.std.specs.Prelude.{Bool, false, if◌then◌else◌}
 use Rattle.script.specs.Pieces.{lines_of, onto_first, pieces, words_between_blanks}
 use Rattle.host_machine.specs.EventLines.{joined, spaced}
 use Rattle.host_machine.specs.Lines.{first_of, words_of}

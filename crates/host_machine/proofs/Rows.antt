@@ -1,5 +1,5 @@
 -- The words behind `report`, where they are as many as there should be.
-use Rattle.std.proofs.Common.{◌≡◌, ℕ, ◌-◌, ◌<◌, ◌≤◌, List, [], ◌∷◌, Bor, length, map, take, drop, refl, sym, ap, arith}
+use Rattle.std.proofs.Common.{◌≡◌, ℕ, ◌-◌, ◌<◌, ◌≤◌, List, [], ◌∷◌, Bor, length, map, take, drop, refl, ap, arith}
 use Rattle.std.specs.Prelude.{Err, slice_index_or}
 use Rattle.std.proofs.lemmas.List.{take_all}
 use Rattle.host_machine.specs.ReportLines.{answer_row, report_of, report_row}

@@ -1,6 +1,6 @@
 -- The words of an event's line ask for the event.
-use Rattle.std.proofs.Common.{◌≡◌, ℕ, ◌+◌, ◌*◌, ◌/◌, ◌%◌, ◌==◌, ◌<◌, ◌≤◌, ◌∙◌, List, [], ◌∷◌, length, refl, sym, ap, subst, arith}
-use Rattle.std.specs.Prelude.{Bool, true, false, codes, nat_le, nat_lt, Option, Some, None, Result, Ok, Err, ok_or, option_map, if◌then◌else◌, ◌&&◌}
+use Rattle.std.proofs.Common.{◌≡◌, ℕ, ◌+◌, ◌*◌, ◌/◌, ◌%◌, ◌==◌, ◌<◌, ◌≤◌, ◌∙◌, List, [], ◌∷◌, length, refl, ap, subst, arith}
+use Rattle.std.specs.Prelude.{Bool, true, false, codes, nat_le, Option, Some, None, Result, Ok, ok_or, option_map, if◌then◌else◌, ◌&&◌}
 use Rattle.std.specs.List.{flat_map}
 use Rattle.std.specs.Result.{result_map_both}
 use Rattle.std.specs.Str.{bytes_eq}
@@ -28,7 +28,7 @@ use Rattle.script_rows.specs.declared.words.LineRule.TheVariants.{BadWord}
 use Rattle.script_text.specs.Text.{byte_text, hex_digit}
 use Rattle.storage_keys.specs.Storage.{bit_number, byte_of, key_of_byte}
 use Rattle.storage_keys.specs.declared.key.Key.{Key}
-use Rattle.host_machine.specs.EventLines.{answer_words, bytes_word, digit_word, eight_digits, event_text, event_words, flag_word, instruction_words, other_words, side_word, sixteen_digits}
+use Rattle.host_machine.specs.EventLines.{bytes_word, digit_word, eight_digits, event_text, event_words, flag_word, side_word, sixteen_digits}
 use Rattle.host_machine.specs.Lines.{event_of_row, event_of_words, words_of}
 use Rattle.host_machine.specs.ReportLines as report
 use Rattle.host_machine.specs.Speakable.{AreBytes, IsSpeakable, IsSpeakableAct, IsSpeakableAnswer, IsSpeakableInstruction, IsSpeakableOther, IsDoubleword, IsWord}

@@ -1,5 +1,5 @@
 -- No word of an event's line has a space.
-use Rattle.std.proofs.Common.{◌≡◌, ℕ, ◌+◌, ◌==◌, List, [], ◌∷◌, ◌++◌, ◌≤◌, refl, arith}
+use Rattle.std.proofs.Common.{◌≡◌, ℕ, ◌+◌, ◌==◌, List, [], ◌∷◌, ◌≤◌, refl, arith}
 use Rattle.std.specs.Prelude.{Bool, true, false, codes, nat_lt, if◌then◌else◌}
 use Rattle.std.specs.List.{flat_map}
 use Rattle.std.proofs.lemmas.Bool.Decides.{nat_tests}
@@ -16,7 +16,7 @@ use Rattle.chan_model.specs.declared.names.Side.{Side}
 use Rattle.chan_model.specs.declared.names.Side.TheVariants.{First, Second}
 use Rattle.chan_model.specs.declared.report.DeviceAnswer.TheVariants.{Begins, Absorbed, Supplied, Again, Ended}
 use Rattle.storage_keys.specs.Storage.{byte_of}
-use Rattle.host_machine.specs.EventLines.{answer_words, bytes_word, digit_word, eight_digits, event_text, event_words, flag_word, instruction_words, other_words, side_code, side_word, sixteen_digits}
+use Rattle.host_machine.specs.EventLines.{answer_words, bytes_word, digit_word, eight_digits, event_text, event_words, flag_word, instruction_words, other_words, side_word, sixteen_digits}
 use Rattle.host_machine.specs.Lines.{words_of}
 use Rattle.host_machine.proofs.Blanks.{AllWhole, IsPlain, Whole, words_back}
 

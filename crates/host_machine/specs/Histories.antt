@@ -1,7 +1,7 @@
 -- The entries that are kept, for a host: how many there are, and each as text (own).
 use Rattle.std.specs.Prelude.{◌≡◌, ℕ, ℤ, pos, ◌≤◌, List, [], Option, Some, None}
 use Rattle.chan_events.specs.declared.reply.Entry.{Entry}
-use Rattle.channel_subsystem.specs.Hosting.{Hosted, Leads}
+use Rattle.channel_subsystem.specs.Hosting.{Leads}
 use Rattle.script_text.specs.Text.{reply_text}
 use Rattle.storage_keys.specs.Storage.{Contents}
 use Rattle.host_machine.specs.Answers.{bad_argument, below}

@@ -1,5 +1,4 @@
-use Rattle.std.proofs.Common.{◌≡◌, ◌∷◌, [], ◌++◌, ◌/◌, ◌%◌, codes, ap, sym, ◌∙◌, List, ℕ, Bool}
-use Rattle.script_text.specs.Text.{byte_text, word_text}
+use Rattle.std.proofs.Common.{ap, sym}
 use Rattle.script_text.proofs.Printing.{same_text}
 use Rattle.host_machine.specs.EventLines as spec
 use Rattle.host_machine.proofs.event_lines.put_act.Goals as goal

@@ -1,5 +1,4 @@
-use Rattle.std.proofs.Common.{◌≡◌, ◌∷◌, [], ◌++◌, ◌/◌, ◌%◌, codes, ap, sym, ◌∙◌, List, ℕ, Bool}
-use Rattle.script_text.specs.Text.{byte_text, word_text}
+use Rattle.std.proofs.Common.{◌∷◌, []}
 use Rattle.script_text.proofs.Printing.{failed_so}
 use Rattle.streams.proofs.Sinking.{takes_then}
 use Rattle.host_machine.specs.EventLines as spec

@@ -1,4 +1,4 @@
-use Rattle.std.proofs.Common.{◌≡◌, ◌∷◌, [], ◌++◌, ◌/◌, ◌%◌, codes, ap, sym, ◌∙◌, List, ℕ, Bool}
+use Rattle.std.proofs.Common.{◌∷◌, [], ◌++◌, codes}
 use Rattle.script_text.specs.Text.{byte_text, word_text}
 use Rattle.script_text.proofs.Printing.{failed_so}
 use Rattle.streams.proofs.Sinking.{takes_then}

@@ -1,4 +1,4 @@
-use Rattle.std.proofs.Common.{ap, ◌∙◌, [], ◌∷◌, Bor, List, ℕ}
+use Rattle.std.proofs.Common.{ap, ◌∙◌, [], List, ℕ}
 use Rattle.std.specs.Prelude.{slice_index_or}
 use Rattle.host_machine.specs.ReportLines as spec
 use Rattle.host_machine.proofs.Rows.{Word, enough, too_few}

@@ -1,7 +1,6 @@
 use Rattle.std.proofs.Common.{refl, ◌≡◌, ◌∙◌, ◌-◌, ◌≤◌, ◌<◌, ap, take, length, arith, List, ℕ, ◌++◌}
 use Rattle.std.proofs.lemmas.List.{length-take}
 use Rattle.std.proofs.lemmas.Slice.{take-put_mid}
-use Rattle.streams.specs.Sinks.{FailsIn}
 use Rattle.host_machine.proofs.told.ToldSink.put.Goals as goal
 
 pub returns-then-bytes-start : goal.returns-then-bytes-start
