@@ -16,6 +16,7 @@ use Rattle.io_step.specs.declared.by_value.OtherByValue.{OtherByValue}
 use Rattle.channel_config.specs.Setup.{no_setup}
 use Rattle.host_machine.specs.Answers.{bad_argument, below, no_memory}
 use Rattle.host_machine.specs.Given.{Gives, GivesOther}
+use Rattle.host_machine.specs.Histories.{Forgets}
 use Rattle.host_machine.specs.Hosts.{Performs, SetsUp, Starts, Stays}
 use Rattle.host_machine.specs.Lines as lines
 use Rattle.host_machine.specs.Settings.{set}
@@ -114,6 +115,10 @@ HandsIn (Some e) old bytes keys number new after left = PerformsAt old bytes key
 abbrev pub LooksAt : (HostMachine → ℤ → Type 0) → Type 0 → Option HostMachine → ℤ → Option HostMachine → Type 0
 LooksAt shows nothing old number new = WhereOpen (λ before answered now. (now ≡ before) × shows before answered) nothing old number new
 
+-- what is kept is let go
+abbrev pub ForgetsAt : Option HostMachine → ℤ → Option HostMachine → Type 0
+ForgetsAt old number new = WhereOpen (λ before answered now. Forgets before answered now) (Unit {0}) old number new
+
 -- the set-up ends: which entries are kept is said by a number
 abbrev pub keeping_numbered : ℕ → Option Keeping
 keeping_numbered number = if number == 0 then Some LastEntry else (if number == 1 then Some AllEntries else None)
@@ -136,4 +141,4 @@ return_numbered initialized = if initialized == 0 then Available else Initialize
 abbrev pub LineAt : List ℕ → Option HostMachine → (bytes keys : List ℕ) → (room : List ℕ) → ℤ → ℕ → Option HostMachine → (after left : List ℕ) → (told : List ℕ) → Type 0
 LineAt line old bytes keys room number count new after left told =
     WhereOpen (λ before answered now. lines.Performs line before bytes keys room answered count now after left told)
-        (((after ≡ bytes) × (left ≡ keys)) × ((told ≡ room) × (count ≡ 0))) old number new
+    (((after ≡ bytes) × (left ≡ keys)) × ((told ≡ room) × (count ≡ 0))) old number new

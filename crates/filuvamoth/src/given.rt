@@ -56,7 +56,9 @@ pub extern "C" fn fm_msch_schib(
 {
     match Cpu::new(cpu) {
         Some(cpu) if schib.len() == 52 => {
-            let instruction = ByValue::Msch { schib: block_of(schib) };
+            let instruction = ByValue::Msch {
+                schib: block_of(schib),
+            };
             give(alloc, handle, cpu, subchannel, &instruction, &mut [])
         }
         _ => BAD_ARGUMENT,

@@ -26,7 +26,10 @@ pub extern "C" fn fm_ssch(
 ) -> i32
     ensures { ExecutesAt handle.old.held.inside bytes.old keys.old cpu (event_spec.Execute cpu (instruction_spec.Ssch subchannel address)) result handle.new.held.inside bytes.new keys.new }
 {
-    let instruction = Instruction::Ssch { subchannel, address };
+    let instruction = Instruction::Ssch {
+        subchannel,
+        address,
+    };
     execute(alloc, handle, bytes, keys, cpu, instruction)
 }
 
@@ -43,7 +46,10 @@ pub extern "C" fn fm_tsch(
 ) -> i32
     ensures { ExecutesAt handle.old.held.inside bytes.old keys.old cpu (event_spec.Execute cpu (instruction_spec.Tsch subchannel address)) result handle.new.held.inside bytes.new keys.new }
 {
-    let instruction = Instruction::Tsch { subchannel, address };
+    let instruction = Instruction::Tsch {
+        subchannel,
+        address,
+    };
     execute(alloc, handle, bytes, keys, cpu, instruction)
 }
 
@@ -60,7 +66,10 @@ pub extern "C" fn fm_stsch(
 ) -> i32
     ensures { ExecutesAt handle.old.held.inside bytes.old keys.old cpu (event_spec.Execute cpu (instruction_spec.Stsch subchannel address)) result handle.new.held.inside bytes.new keys.new }
 {
-    let instruction = Instruction::Stsch { subchannel, address };
+    let instruction = Instruction::Stsch {
+        subchannel,
+        address,
+    };
     execute(alloc, handle, bytes, keys, cpu, instruction)
 }
 
@@ -77,7 +86,10 @@ pub extern "C" fn fm_msch(
 ) -> i32
     ensures { ExecutesAt handle.old.held.inside bytes.old keys.old cpu (event_spec.Execute cpu (instruction_spec.Msch subchannel address)) result handle.new.held.inside bytes.new keys.new }
 {
-    let instruction = Instruction::Msch { subchannel, address };
+    let instruction = Instruction::Msch {
+        subchannel,
+        address,
+    };
     execute(alloc, handle, bytes, keys, cpu, instruction)
 }
 

@@ -14,6 +14,7 @@ mod events;
 mod given;
 mod handle;
 mod held;
+mod history;
 mod instructions;
 mod lines;
 mod looks;

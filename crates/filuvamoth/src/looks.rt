@@ -44,7 +44,12 @@ pub extern "C" fn fm_report_count(alloc: Global, handle: &mut Handle) -> i32
 
 /// The SCHIB that STORE SUBCHANNEL would store, as far as there is room for its 52 bytes.
 #[unsafe(no_mangle)]
-pub extern "C" fn fm_schib(alloc: Global, handle: &mut Handle, subchannel: u32, room: &mut [u8]) -> i32
+pub extern "C" fn fm_schib(
+    alloc: Global,
+    handle: &mut Handle,
+    subchannel: u32,
+    room: &mut [u8],
+) -> i32
     ensures { LooksAt (λ machine number. Shows (λ r answered. ShowsBlock (spec.schib_at r.subsystem.machine subchannel) answered room.old room.new) (room.new ≡ room.old) machine number)
         (room.new ≡ room.old) handle.old.held.inside result handle.new.held.inside }
 {
@@ -60,7 +65,12 @@ pub extern "C" fn fm_schib(alloc: Global, handle: &mut Handle, subchannel: u32, 
 
 /// The IRB that TEST SUBCHANNEL would store where the subchannel is enabled, as far as there is room for its 64 bytes.
 #[unsafe(no_mangle)]
-pub extern "C" fn fm_irb(alloc: Global, handle: &mut Handle, subchannel: u32, room: &mut [u8]) -> i32
+pub extern "C" fn fm_irb(
+    alloc: Global,
+    handle: &mut Handle,
+    subchannel: u32,
+    room: &mut [u8],
+) -> i32
     ensures { LooksAt (λ machine number. Shows (λ r answered. ShowsBlock (spec.irb_at r.subsystem.machine subchannel) answered room.old room.new) (room.new ≡ room.old) machine number)
         (room.new ≡ room.old) handle.old.held.inside result handle.new.held.inside }
 {

@@ -7,7 +7,6 @@ use Rattle.chan_model.specs.declared.fault.Fault.{Fault}
 use Rattle.chan_model.specs.declared.fault.Fault.TheVariants as fault
 use Rattle.chan_events.specs.declared.reply.Reply as declared_reply
 use Rattle.chan_events.specs.declared.reply.Reply.TheVariants as reply
-use Rattle.chan_events.specs.Replies.{Reply}
 use Rattle.channel_config.specs.declared.config.ConfigFault.{ConfigFault}
 use Rattle.channel_config.specs.declared.config.ConfigFault.TheVariants as config_fault
 use Rattle.channel_config.specs.declared.config.ConfigRule.{ConfigRule}

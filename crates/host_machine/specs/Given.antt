@@ -1,6 +1,6 @@
 -- Instructions with their operand by value, for a host that has numbers and bytes alone: the block that an instruction leaves is
 -- written where the host has room for it (own).
-use Rattle.std.specs.Prelude.{◌≡◌, ℕ, ℤ, List, [], ◌∷◌, ◌++◌, drop, take, length, map, Option, None, Some, Result, Ok, Err}
+use Rattle.std.specs.Prelude.{◌≡◌, ℕ, ℤ, List, [], ◌∷◌, ◌++◌, drop, take, length, map, Some, Result, Ok, Err}
 use Rattle.zbits.specs.Layout.{word_of}
 use Rattle.scsw_irb.specs.CodeTable.{code_tables}
 use Rattle.chan_events.specs.Replies.{PlainReply}

@@ -1,12 +1,12 @@
 -- A channel subsystem as a host has it that has numbers, bytes and their lengths alone (own): first it is set up, then it runs.
-use Rattle.std.specs.Prelude.{◌≡◌, ◌⊎◌, ℕ, ℤ, pos, ◌*◌, ◌==◌, ◌&&◌, ◌||◌, Bool, IsTrue, List, [], ◌∷◌, length, replicate, unwrap_or, if◌then◌else◌, Option, Some, None, Result, Ok, Err}
-use Rattle.storage_keys.specs.Storage.{Contents, are_areas, cleared_storage, lent_contents}
+use Rattle.std.specs.Prelude.{◌≡◌, ◌⊎◌, ℕ, ℤ, pos, ◌*◌, ◌==◌, ◌&&◌, ◌||◌, Bool, List, [], ◌∷◌, length, replicate, unwrap_or, if◌then◌else◌, Result, Ok, Err}
+use Rattle.storage_keys.specs.Storage.{Contents, cleared_storage, lent_contents}
 use Rattle.chan_events.specs.Events.{Event}
 use Rattle.chan_events.specs.Replies.{Reply}
 use Rattle.channel_config.specs.declared.config.ConfigRule.{ConfigRule}
 use Rattle.channel_config.specs.Lawful.{hosted}
 use Rattle.channel_config.specs.Setup.{Setup}
-use Rattle.channel_subsystem.specs.Hosting.{Hosted, IsHostSize, IsHostStep, Leads}
+use Rattle.channel_subsystem.specs.Hosting.{IsHostSize, IsHostStep, Leads}
 use Rattle.channel_subsystem.specs.declared.host_fault.HostFault.{HostFault}
 use Rattle.channel_subsystem.specs.declared.host_fault.HostFault.TheVariants as host_fault
 use Rattle.channel_subsystem.specs.declared.keeping.Keeping.{Keeping}
@@ -14,7 +14,7 @@ use Rattle.machine_model.specs.Setups.{IsSetUp}
 use Rattle.machine_model.specs.State.{lent}
 use Rattle.path_select.specs.Choice.{TakesNext}
 use Rattle.host_machine.specs.Machines.{Running}
-use Rattle.host_machine.specs.Answers.{answer_number, at_other_stage, bad_argument, below, config_size, no_memory, other_size, rule_size}
+use Rattle.host_machine.specs.Answers.{answer_number, at_other_stage, bad_argument, below, no_memory, rule_size}
 use Rattle.host_machine.specs.declared.host_machine.HostMachine.{HostMachine}
 use Rattle.host_machine.specs.declared.host_machine.HostMachine.TheVariants.{SettingUp, Runs}
 

@@ -1,5 +1,6 @@
 -- A line of a script, for a host: the event that it asks for, and what is printed of its answer (own).
-use Rattle.std.specs.Prelude.{◌≡◌, ◌⊎◌, ℕ, ℤ, List, [], ◌∷◌, codes, length, take, Option, Some, None, Result, Ok, Err}
+use Rattle.std.specs.Prelude.{◌≡◌, ◌⊎◌, ℕ, ℤ, List, [], ◌∷◌, codes, length, take, Option, Some, None, Result, Ok, Err, if◌then◌else◌}
+use Rattle.std.specs.Str.{bytes_eq}
 use Rattle.chan_events.specs.Events.{Event}
 use Rattle.chan_events.specs.Replies.{Reply}
 use Rattle.channel_subsystem.specs.declared.host_fault.HostFault.{HostFault}
@@ -16,6 +17,7 @@ use Rattle.host_machine.specs.Given.{written}
 use Rattle.host_machine.specs.Hosts.{Answers, Stays, WhereItRuns}
 use Rattle.host_machine.specs.declared.host_machine.HostMachine.{HostMachine}
 use Rattle.host_machine.specs.Machines.{Running}
+use Rattle.host_machine.specs.ReportLines.{report_row}
 
 -- 768 and the number of the rule that a line breaks
 abbrev pub line_size : LineRule → ℕ
@@ -35,7 +37,8 @@ first_of (line ∷ lines) = line
 abbrev pub words_of : List ℕ → List (List ℕ)
 words_of text = words_between_blanks (first_of (lines_of text))
 
--- the event that words ask for: a line of a device or of a glance asks for none
+-- the event that words ask for: a line that hands in what a device answered, or one of a script; a line of a device or of a glance
+-- asks for none
 abbrev pub event_of_action : Action → Result Event LineRule
 event_of_action (action.Event e) = Ok e
 event_of_action other = Err rule.UnknownWord
@@ -47,7 +50,7 @@ event_of_row (Some (Ok asked)) = event_of_action asked
 
 abbrev pub event_of_words : List (List ℕ) → Result Event LineRule
 event_of_words [] = Err rule.UnknownWord
-event_of_words (word ∷ words) = event_of_row (action_row word words)
+event_of_words (word ∷ words) = if bytes_eq word (codes "report") then report_row words else event_of_row (action_row word words)
 
 -- what is printed of an answer
 abbrev pub answer_text : Result Reply HostFault → List ℕ
@@ -57,9 +60,12 @@ answer_text (Err host_fault.OtherSize) = codes "other size"
 answer_text (Err host_fault.NumbersUsedUp) = codes "no number"
 answer_text (Err host_fault.NoMemory) = codes "no memory"
 
--- the text stands first in the host's room, as far as it fits, and this many bytes of it; or none was written
+-- the text, of which 1,024 bytes are told at most, stands first in the host's room, as far as it fits, and this many bytes of it
+abbrev pub told_of : List ℕ → List ℕ
+told_of text = take 1024 text
+
 abbrev pub Tells : List ℕ → (room left : List ℕ) → ℕ → Type 0
-Tells text room left count = ((left ≡ written text room) × (count ≡ length (take (length room) text))) ⊎ ((left ≡ room) × (count ≡ 0))
+Tells text room left count = (left ≡ written (told_of text) room) × (count ≡ length (take (length room) (told_of text)))
 
 -- an event is entered, and its answer is told by its number and its text
 abbrev pub PerformsEvent : Result Event LineRule → Running → (bytes keys : List ℕ) → (room : List ℕ) → ℤ → ℕ → Running → (after left : List ℕ) → (told : List ℕ) → Type 0
@@ -77,4 +83,4 @@ PerformsLine line old bytes keys room number count new after left told =
 abbrev pub Performs : List ℕ → HostMachine → (bytes keys : List ℕ) → (room : List ℕ) → ℤ → ℕ → HostMachine → (after left : List ℕ) → (told : List ℕ) → Type 0
 Performs line old bytes keys room number count new after left told =
     WhereItRuns (λ before answered now. PerformsLine line before bytes keys room answered count now after left told)
-        (((after ≡ bytes) × (left ≡ keys)) × ((told ≡ room) × (count ≡ 0))) old number new
+    (((after ≡ bytes) × (left ≡ keys)) × ((told ≡ room) × (count ≡ 0))) old number new

@@ -1,8 +1,7 @@
 -- Looks at a machine, in numbers and bytes: nothing changes (own).
-use Rattle.std.specs.Prelude.{◌≡◌, ◌⊎◌, ℕ, ℤ, pos, ◌+◌, ◌*◌, ◌==◌, ◌<◌, Bool, List, [], ◌∷◌, false, length, map, nat_lt, option_map, slice_index_or, Option, Some, None, if◌then◌else◌}
+use Rattle.std.specs.Prelude.{◌≡◌, ◌⊎◌, ℕ, ℤ, pos, ◌+◌, ◌==◌, ◌<◌, Bool, List, [], ◌∷◌, false, map, nat_lt, option_map, slice_index_or, Option, Some, None, if◌then◌else◌}
 use Rattle.zbits.specs.Bits.{bit_of}
 use Rattle.zbits.specs.Layout.{image_of, word_of}
-use Rattle.chan_model.specs.ConditionCodes.{code_of}
 use Rattle.chan_model.specs.declared.answer.Answer.{Answer}
 use Rattle.chan_model.specs.declared.answer.Answer.TheVariants as answer
 use Rattle.chan_model.specs.declared.fault.Fault.TheVariants as fault
@@ -20,7 +19,6 @@ use Rattle.scsw_irb.specs.declared.serials.Serials.{Serials}
 use Rattle.subchannel_model.specs.Choosing.{any_engages}
 use Rattle.subchannel_model.specs.Store.{schib_of}
 use Rattle.subchannel_model.specs.Test.{irb_of}
-use Rattle.subchannel_model.specs.declared.state.Subchannel.{Subchannel}
 use Rattle.host_machine.specs.Answers.{at_other_stage, below, fault_size}
 use Rattle.host_machine.specs.Given.{written}
 use Rattle.host_machine.specs.Machines.{Running}

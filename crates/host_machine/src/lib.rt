@@ -7,12 +7,16 @@
 #![tactic(auto)]
 
 pub mod answers;
+pub mod event_lines;
 mod given;
+pub mod histories;
 pub mod host_machine;
 pub mod lines;
 mod looking;
+mod report_line;
 pub mod running;
 pub mod seen;
 pub mod setting_up;
+mod told;
 pub mod turns;
 pub mod works;

@@ -4,12 +4,14 @@ ghost use Rattle.std.specs.Prelude.{◌≡◌, IfOk, map};
 ghost use Rattle.host_machine.specs.Answers.{answer_number, below};
 ghost use Rattle.host_machine.specs.Lines as spec;
 ghost use Rattle.host_machine.specs.Lines.{PerformsEvent, PerformsLine, Tells};
+ghost use Rattle.script_rows.specs.Actions.{action_row};
 ghost use Rattle.streams.specs.Sinks.{Puts};
 
 use crate::answers::{AT_OTHER_STAGE, NO_MEMORY, refusal_number, reply_number};
-use crate::given::write_first;
 use crate::host_machine::HostMachine;
+use crate::report_line::report_row;
 use crate::running::Running;
+use crate::told::Told;
 use chan_events::event::Event;
 use chan_events::reply::Reply;
 use channel_subsystem::host_fault::HostFault;
@@ -17,8 +19,7 @@ use memory::Allocator;
 use script::text::TextLine;
 use script_rows::actions::action_row;
 use script_rows::slots::{ActionSlot, KeptAction};
-use script_rows::words::LineRule;
-use script_text::held::Held;
+use script_rows::words::{LineRule, is_name};
 use script_text::{put_refusal, put_reply};
 use std::alloc::{AllocError, Global};
 use streams::Sink;
@@ -54,13 +55,10 @@ pub(crate) fn words_of(alloc: Global, text: &[u8]) -> Result<Vec<&[u8]>, AllocEr
     Ok(words)
 }
 
-/// The event that the words of a line ask for.
-fn event_of(words: &[&[u8]]) -> Result<Event, LineRule>
-    ensures { result ≡ spec.event_of_words (map (λ w. w.now) words.now) }
+/// The event that the words of a line of a script ask for, behind its first word.
+fn event_of_script(first: &[u8], others: &[&[u8]]) -> Result<Event, LineRule>
+    ensures { result ≡ spec.event_of_row (action_row first.now (map (λ w. w.now) others.now)) }
 {
-    let [first, others @ ..] = words else {
-        return Err(LineRule::UnknownWord);
-    };
     let mut slot = ActionSlot::new();
     if !action_row(&mut slot, first, others)? {
         return Err(LineRule::UnknownWord);
@@ -68,6 +66,20 @@ fn event_of(words: &[&[u8]]) -> Result<Event, LineRule>
     match &slot.kept {
         KeptAction::Event(event) => Ok(event.own(slot.bytes())),
         KeptAction::Dev(_) | KeptAction::Glance(_) => Err(LineRule::UnknownWord),
+    }
+}
+
+/// The event that the words of a line ask for.
+fn event_of(words: &[&[u8]]) -> Result<Event, LineRule>
+    ensures { result ≡ spec.event_of_words (map (λ w. w.now) words.now) }
+{
+    let [first, others @ ..] = words else {
+        return Err(LineRule::UnknownWord);
+    };
+    if is_name(first, b"report") {
+        report_row(others)
+    } else {
+        event_of_script(first, others)
     }
 }
 
@@ -88,12 +100,9 @@ fn put_answer<S: Sink>(sink: &mut S, answer: &Result<Reply, HostFault>) -> bool
 fn tell(answer: &Result<Reply, HostFault>, room: &mut [u8]) -> usize
     ensures { Tells (spec.answer_text answer.now) room.old room.new result }
 {
-    let mut held = Held::new();
-    if !put_answer(&mut held, answer) {
-        return 0;
-    }
-    write_first(held.bytes(), room);
-    held.bytes().len().min(room.len())
+    let mut told = Told::new();
+    let _whole = put_answer(&mut told, answer);
+    told.write(room)
 }
 
 /// The number of an answer.

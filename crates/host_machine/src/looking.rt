@@ -107,7 +107,10 @@ impl HostMachine {
             HostMachine::SettingUp(_) => AT_OTHER_STAGE,
             HostMachine::Runs(running) => {
                 let subsystem = running.subsystem();
-                path_number(subsystem.is_path_up(chpid), subsystem.is_path_engaged(chpid))
+                path_number(
+                    subsystem.is_path_up(chpid),
+                    subsystem.is_path_engaged(chpid),
+                )
             }
         }
     }

@@ -5,6 +5,7 @@ ghost use Rattle.channel_subsystem.specs.GivenSteps.{IsGivenStep, IsOtherGivenSt
 ghost use Rattle.channel_subsystem.specs.Hosting.{IsHostStep};
 ghost use Rattle.host_machine.specs.Hosts as spec;
 ghost use Rattle.host_machine.specs.Answers.{answer_number};
+ghost use Rattle.host_machine.specs.Histories.{HasForgotten};
 ghost use Rattle.host_machine.specs.Hosts.{Answers, Enters, IsStarted};
 ghost use Rattle.path_select.specs.Choice.{TakesNext};
 ghost use Rattle.storage_keys.specs.Storage.{are_areas, lent_contents, may_be_lent};
@@ -98,6 +99,13 @@ impl Running {
         ensures { result.now ≡ self.now.subsystem }
     {
         &self.subsystem
+    }
+
+    /// Lets go the entries that are kept.
+    pub fn forget(&mut self)
+        ensures { HasForgotten self.old self.new }
+    {
+        self.subsystem.forget();
     }
 
     /// Whether storage of so many bytes may be lent, with so many keys.
@@ -202,7 +210,8 @@ impl Running {
         ensures keys { self.new.keys ≡ self.old.keys }
         ensures prefixes { self.new.prefixes ≡ self.old.prefixes }
     {
-        self.subsystem.execute_by_value(cpu, subchannel, instruction)
+        self.subsystem
+            .execute_by_value(cpu, subchannel, instruction)
     }
 
     /// An instruction that names no subchannel, with its operand by value, as `ChannelSubsystem::execute_other_by_value` has it.

@@ -187,7 +187,7 @@ fn long_number(word: &[u8]) -> Option<u32>
 
 /// A number of 1 to 8 hexadecimal digits; most have one, which is decimal.
 #[inline(always)]
-pub(crate) fn number(word: &[u8]) -> Option<u32>
+pub fn number(word: &[u8]) -> Option<u32>
     ensures value { result ≡ spec.number word.now }
     ensures short { IfSome result (λ n. length word.now ≤ 4 → n < 0x10000) }
 {
@@ -198,7 +198,7 @@ pub(crate) fn number(word: &[u8]) -> Option<u32>
 }
 
 /// A number that is at most `most`.
-pub(crate) fn number_up_to(most: u32, word: &[u8]) -> Option<u32>
+pub fn number_up_to(most: u32, word: &[u8]) -> Option<u32>
     ensures value { result ≡ spec.number_up_to most word.now }
     ensures bound { IfSome result (λ n. n ≤ most) }
 {
@@ -303,7 +303,7 @@ fn bytes_from(word: &[u8]) -> Option<Chunk>
 }
 
 /// 1 to 256 bytes of two hexadecimal digits each.
-pub(crate) fn hex_bytes(word: &[u8]) -> Option<Chunk>
+pub fn hex_bytes(word: &[u8]) -> Option<Chunk>
     ensures { result ≡ spec.hex_bytes word.now }
 {
     if word.is_empty() || word.len() > 512 {

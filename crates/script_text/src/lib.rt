@@ -48,7 +48,7 @@ pub enum ActionResult {
 /// How many identifiers of channel paths there are.
 const PATH_IDENTIFIERS: u16 = 256;
 
-fn hex_digit(digit: u8) -> u8
+pub fn hex_digit(digit: u8) -> u8
     requires { digit < 16 }
     ensures { result ≡ spec.hex_digit digit }
 {
@@ -82,7 +82,7 @@ fn put_byte<S: Sink>(sink: &mut S, byte: u8) -> bool
     sink.put(&digits)
 }
 
-pub(crate) fn put_bytes<S: Sink>(sink: &mut S, bytes: &[u8]) -> bool
+pub fn put_bytes<S: Sink>(sink: &mut S, bytes: &[u8]) -> bool
     ensures { Puts (S.seen sink.old) (flat_map spec.byte_text bytes.now) (S.seen sink.new) result }
 {
     for byte in bytes {
@@ -94,7 +94,7 @@ pub(crate) fn put_bytes<S: Sink>(sink: &mut S, bytes: &[u8]) -> bool
 }
 
 /// A space and the eight hexadecimal digits of a word.
-fn put_word<S: Sink>(sink: &mut S, word: u32) -> bool
+pub fn put_word<S: Sink>(sink: &mut S, word: u32) -> bool
     ensures { Puts (S.seen sink.old) (spec.word_text word) (S.seen sink.new) result }
 {
     let digits = [
@@ -111,7 +111,7 @@ fn put_word<S: Sink>(sink: &mut S, word: u32) -> bool
     sink.put(&digits)
 }
 
-fn put_words<S: Sink>(sink: &mut S, words: &[u32]) -> bool
+pub fn put_words<S: Sink>(sink: &mut S, words: &[u32]) -> bool
     ensures { Puts (S.seen sink.old) (flat_map spec.word_text words.now) (S.seen sink.new) result }
 {
     for word in words {
@@ -195,7 +195,7 @@ fn is_engaged(engaged: &[u8; PATH_STATUS_BYTES], path: u8) -> bool
 }
 
 /// A space and the two hexadecimal digits of a byte.
-fn put_spaced_byte<S: Sink>(sink: &mut S, byte: u8) -> bool
+pub fn put_spaced_byte<S: Sink>(sink: &mut S, byte: u8) -> bool
     ensures { Puts (S.seen sink.old) (32 ∷ spec.byte_text byte) (S.seen sink.new) result }
 {
     let digits = [b' ', hex_digit(byte / 0x10 % 16), hex_digit(byte % 16)];

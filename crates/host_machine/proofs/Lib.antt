@@ -1,0 +1,7 @@
+pub mod Blanks
+pub mod Digits
+pub mod Lengths
+pub mod Rows
+pub mod Speaking
+pub mod Telling
+pub mod Wholes
