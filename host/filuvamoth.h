@@ -456,7 +456,8 @@ int32_t fm_seen(fm_machine *machine, fm_told *told);
 
 /* Performs the event that the first line of a text asks for, a line of a script (docs/SCRIPTS.md): "ssch 0 500", "cpu 3 tpi 80 0". The
  * text that chsim prints for it behind its number, with no line feed, is written to `text` as far as `room` reaches, and `*written` is
- * how many bytes were: 640 are enough but for a `stcps` with more than 211 paths. A refused event has a text too, as "refused 3".
+ * how many bytes were: 773 at most. A refused event has a text too, as "refused 3". `report UNIT SIDE PROGRAM COMMAND CHUNK ANSWER` hands
+ * in what a device answered: `begins`, `absorbed COUNT`, `supplied BYTES` (`-` for none), `again`, `ended STATUS`, `ended STATUS more`.
  * The number of the event's answer; or FM_LINE_UNKNOWN_WORD of `dev`, `glance`, `race`, of lines that set up and of those that are
  * none, FM_LINE_WRONG_COUNT, FM_LINE_BAD_WORD, or FM_NO_MEMORY for its words: then nothing is performed and nothing written. */
 int32_t fm_line(fm_machine *machine, FM_STORAGE, const uint8_t *line, size_t length, uint8_t *text, size_t room, size_t *written);
