@@ -911,7 +911,7 @@ static void replay(fm_machine *from)
     EXPECT(fm_add_subchannel(&to, WORD, 0x100, 0, path, 1), 0);
     EXPECT(fm_start(&to, BLOCKS, FM_KEEP_NONE), 0);
     EXPECT(fm_history_count(from, &count), 0);
-    EXPECT(count > 20, 1);
+    EXPECT(count > 15, 1);
     for (at = 0; at < count; at++) {
         EXPECT(fm_history_line(from, at, line, sizeof line, &length), 0);
         EXPECT(fm_history_reply(from, at, reply, sizeof reply, &replied), 0);
