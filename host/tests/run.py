@@ -37,8 +37,8 @@ SANITIZERS = {
     "address+undefined": ["-O1", "-g", "-fsanitize=address,undefined", "-fno-sanitize-recover=all", "-fno-omit-frame-pointer"],
 }
 THREADS = {"plain": ["-O2"], "thread": ["-O1", "-g", "-fsanitize=thread"]}
-#: The least programs a second through Python.
-LEAST_PROGRAMS = 20000
+#: The least programs a second through Python, also on a machine that is busy: a quiet one does two to five times as many.
+LEAST_PROGRAMS = 10000
 #: How many lines the recorded runs have, and how many of them are answered otherwise: two of altered.run were altered.
 RECORDED = {"firmware-ipl.run": (304, 0), "linux-recognition.run": (188, 0), "altered.run": (39, 2)}
 #: Scripts whose allocations are refused in turn.
