@@ -81,7 +81,10 @@ pub struct LentLooking<'a> {
 
 impl<'a> LentLooking<'a> {
     /// This subsystem on this storage.
-    pub fn of(subsystem: ChannelSubsystem<Rotating>, storage: LentStorage<'a, 'a, 'a>) -> LentLooking<'a> {
+    pub fn of(
+        subsystem: ChannelSubsystem<Rotating>,
+        storage: LentStorage<'a, 'a, 'a>,
+    ) -> LentLooking<'a> {
         LentLooking {
             performing: LentPerforming::of(subsystem, storage),
         }
