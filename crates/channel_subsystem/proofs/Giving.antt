@@ -1,7 +1,7 @@
 -- An instruction whose operand is given by value, as a step of a channel subsystem on each storage that has the operand.
 use Rattle.std.proofs.Common.{◌≡◌, refl, ℕ, ◌+◌, ◌^◌, ◌≤◌, ◌⊎◌, List, Ok, Err}
 use Rattle.std.specs.Prelude.{IfSome}
-use Rattle.storage_keys.specs.Storage.{Contents, IsAddressable, cleared_storage}
+use Rattle.storage_keys.specs.Storage.{Contents, cleared_storage}
 use Rattle.chan_events.specs.declared.reply.Entry.{Entry}
 use Rattle.chan_events.specs.Replies.{PlainReply, reply_of}
 use Rattle.io_step.specs.GivenOperands.{HasOperand, HasRoom, storage_with, with_block, with_reply}
@@ -18,7 +18,7 @@ use Rattle.channel_subsystem.specs.Ends.{still_kept}
 use Rattle.channel_subsystem.specs.GivenSteps.{IsGivenStep, IsOtherGivenStep, given_event, other_event}
 use Rattle.chan_events.specs.Events.{Event}
 use Rattle.channel_subsystem.specs.declared.keeping.Keeping.TheVariants.{AllEntries}
-use Rattle.channel_subsystem.specs.Hosting.{HasLed, Hosted, IsHostRefusal, IsHostSize, IsOfSize, LacksRoom, machine_answer}
+use Rattle.channel_subsystem.specs.Hosting.{HasLed, Hosted, IsHostRefusal, IsHostSize, LacksRoom, machine_answer}
 use Rattle.channel_subsystem.specs.declared.host_fault.HostFault.{HostFault}
 use Rattle.channel_subsystem.specs.declared.host_fault.HostFault.TheVariants as fault
 use Rattle.channel_subsystem.proofs.Answering.{HasLaws, accepted, lacks-room, unmoved-seen}

@@ -1,5 +1,4 @@
-use Rattle.std.proofs.Common.{refl, sym, ◌≡◌, ◌∙◌, ap, subst, arith, ◌+◌, ◌≤◌, ◌∷◌, [], ◌++◌, List, length, length-append, Ok, Err}
-use Rattle.storage_keys.specs.Storage.{Contents}
+use Rattle.std.proofs.Common.{refl, sym, ◌∙◌, ap, subst, arith, ◌+◌, ◌≤◌, ◌∷◌, [], ◌++◌, List, length, length-append, Ok, Err}
 use Rattle.chan_events.specs.declared.reply.Entry.{Entry}
 use Rattle.chan_events.specs.Replies.{reply_of}
 use Rattle.channel_subsystem.specs.GivenSteps.{IsGivenStep, IsSomewhere, given_event}

@@ -1,12 +1,9 @@
-use Rattle.std.proofs.Common.{refl, sym, ◌≡◌, ◌∙◌, ap, subst, arith, ◌+◌, ◌≤◌, ◌∷◌, [], ◌++◌, List, length, length-append, Ok, Err}
-use Rattle.storage_keys.specs.Storage.{Contents}
+use Rattle.std.proofs.Common.{refl, sym, ◌∙◌, ap, subst, arith, ◌+◌, ◌∷◌, [], ◌++◌, List, length, length-append, Ok}
 use Rattle.chan_events.specs.declared.reply.Entry.{Entry}
 use Rattle.chan_events.specs.Replies.{reply_of}
 use Rattle.channel_subsystem.specs.GivenSteps.{HasRoomSomewhere, IsOtherGivenStep, other_event}
 use Rattle.channel_subsystem.specs.Hosting.{Hosted}
-use Rattle.channel_subsystem.specs.declared.host_fault.HostFault.TheVariants as fault
 use Rattle.event_log.specs.Logs.{Logged}
-use Rattle.machine_model.specs.State.{State}
 use Rattle.channel_subsystem.proofs.Answering.{HasLaws}
 use Rattle.channel_subsystem.proofs.Giving.{lacks-why, other-accepted, other-led, other-unmoved}
 use Rattle.channel_subsystem.proofs.Leading.{Adds}
