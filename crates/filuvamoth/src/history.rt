@@ -27,8 +27,8 @@ pub extern "C" fn fm_history_count(alloc: Global, handle: &mut Handle, count: &m
 }
 
 /// The line that asks for the event of the entry of this number, from 0, is written into the room, as far as it fits: `written` says
-/// how many bytes, of which there are at most 590. `fm_line` takes it. The event of a line has the same bytes, numbers and names;
-/// three can be asked for by calls alone: bytes that are put and are none, a length above 64 that is shown, and a subclass above 7.
+/// how many bytes, of which there are at most 590. `fm_line` reads the event back. It refuses the lines of what calls alone can ask
+/// for: bytes that are put and are none, a length that is shown of none or above 64, and an interruption subclass above 7.
 #[unsafe(no_mangle)]
 pub extern "C" fn fm_history_line(
     alloc: Global,
