@@ -1,6 +1,7 @@
 //! A machine that is set up, and then runs.
 
-ghost use Rattle.std.specs.Prelude.{◌≡◌};
+ghost use Rattle.std.specs.Prelude.{◌≡◌, true};
+ghost use Rattle.host_machine.specs.Answers.{below, no_memory};
 ghost use Rattle.channel_config.specs.Setup.{no_setup};
 ghost use Rattle.host_machine.specs.Hosts as spec;
 ghost use Rattle.host_machine.specs.Hosts.{Performs, Starts};
@@ -12,6 +13,7 @@ use crate::running::Running;
 use chan_events::event::Event;
 use channel_config::config::Config;
 use channel_subsystem::keeping::Keeping;
+use memory::{Allocator, Supply};
 use std::alloc::Global;
 use std::mem::replace;
 
@@ -62,11 +64,25 @@ impl HostMachine {
         }
     }
 
-    /// The machine that is set up runs, for storage of so many blocks of 4,096 bytes, with keys and prefixes of zero; 0 blocks are as
-    /// many as a line of the set-up says of storage. `BAD_ARGUMENT`
-    /// where the blocks are not 16 to 524,288, `NO_MEMORY` where there is none: then it is set up as it was.
+    /// The same as `start_with`, in what room the allocator has.
     pub fn start(&mut self, alloc: Global, blocks: u32, keeping: Keeping) -> i32
         ensures { Starts self.old blocks keeping result self.new }
+    {
+        self.start_with(alloc, &mut Allocator { refused: false }, blocks, keeping)
+    }
+
+    /// The machine that is set up runs, for storage of so many blocks of 4,096 bytes, with keys and prefixes of zero; 0 blocks are as
+    /// many as a line of the set-up says of storage. `BAD_ARGUMENT` where the blocks are not 16 to 524,288, `NO_MEMORY` where the supply
+    /// refused a growth: then it is set up as it was.
+    pub fn start_with<S: Supply>(
+        &mut self,
+        alloc: Global,
+        supply: &mut S,
+        blocks: u32,
+        keeping: Keeping,
+    ) -> i32
+        ensures starts { Starts self.old blocks keeping result self.new }
+        ensures memory { result ≡ below no_memory → S.refused supply.new ≡ true }
     {
         let HostMachine::SettingUp(config) = self else {
             return AT_OTHER_STAGE;
@@ -76,7 +92,7 @@ impl HostMachine {
             return BAD_ARGUMENT;
         }
         let given = replace(config, Config::new(alloc));
-        match Running::new(alloc, given, blocks, keeping) {
+        match Running::new_with(alloc, supply, given, blocks, keeping) {
             Ok(running) => {
                 *self = HostMachine::Runs(running);
                 0

@@ -1,6 +1,6 @@
 //! A line of a script, performed and answered as text.
 
-ghost use Rattle.std.specs.Prelude.{◌≡◌, IfOk, map};
+ghost use Rattle.std.specs.Prelude.{◌≡◌, IfOk, OnErr, map, true};
 ghost use Rattle.host_machine.specs.Answers.{answer_number, below};
 ghost use Rattle.host_machine.specs.Lines as spec;
 ghost use Rattle.host_machine.specs.Lines.{PerformsEvent, PerformsLine, Tells};
@@ -15,7 +15,7 @@ use crate::told::Told;
 use chan_events::event::Event;
 use chan_events::reply::Reply;
 use channel_subsystem::host_fault::HostFault;
-use memory::Allocator;
+use memory::{Allocator, Supply};
 use script::text::TextLine;
 use script_rows::actions::action_row;
 use script_rows::slots::{ActionSlot, KeptAction};
@@ -47,11 +47,16 @@ pub fn line_number(rule: LineRule) -> i32
 }
 
 /// The words of the first line of a text.
-pub(crate) fn words_of(alloc: Global, text: &[u8]) -> Result<Vec<&[u8]>, AllocError>
-    ensures { IfOk result (λ words. map (λ w. w.now) words.items ≡ spec.words_of text.now) }
+pub(crate) fn words_of<'a, S: Supply>(
+    alloc: Global,
+    supply: &mut S,
+    text: &'a [u8],
+) -> Result<Vec<&'a [u8]>, AllocError>
+    ensures words { IfOk result (λ words. map (λ w. w.now) words.items ≡ spec.words_of text.now) }
+    ensures memory { OnErr result (S.refused supply.new ≡ true) }
 {
     let mut words = Vec::new(alloc);
-    TextLine::first(text).words_to(&mut Allocator { refused: false }, &mut words)?;
+    TextLine::first(text).words_to(supply, &mut words)?;
     Ok(words)
 }
 
@@ -154,7 +159,7 @@ impl Running {
     ) -> ToldLine
         ensures { PerformsLine line.now self.old bytes.old keys.old room.old result.number result.written self.new bytes.new keys.new room.new }
     {
-        match words_of(alloc, line) {
+        match words_of(alloc, &mut Allocator { refused: false }, line) {
             Err(_) => ToldLine {
                 number: NO_MEMORY,
                 written: 0,

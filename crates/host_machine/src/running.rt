@@ -1,8 +1,8 @@
 //! A machine that runs: the channel subsystem, with what of storage its host need not have.
 
-ghost use Rattle.std.specs.Prelude.{◌≡◌, ◌*◌, IfErr, IfOk, IsTrue, length};
+ghost use Rattle.std.specs.Prelude.{◌≡◌, ◌⊎◌, ◌*◌, IfErr, IfOk, IsTrue, OnErr, length, replicate, true};
 ghost use Rattle.channel_subsystem.specs.GivenSteps.{IsGivenStep, IsOtherGivenStep};
-ghost use Rattle.channel_subsystem.specs.Hosting.{IsHostStep};
+ghost use Rattle.channel_subsystem.specs.Hosting.{IsHostSize, IsHostStep};
 ghost use Rattle.host_machine.specs.Hosts as spec;
 ghost use Rattle.host_machine.specs.Answers.{answer_number};
 ghost use Rattle.host_machine.specs.Histories.{HasForgotten};
@@ -20,8 +20,9 @@ use channel_subsystem::host_fault::HostFault;
 use channel_subsystem::hosted::ChannelSubsystem;
 use channel_subsystem::keeping::Keeping;
 use io_step::{Answered, ByValue, OtherByValue};
+use memory::{Supply, make_room};
 use path_select::Rotating;
-use std::alloc::Global;
+use std::alloc::{AllocError, Global};
 use std::marker::Model;
 use storage_keys::LentStorage;
 use subsystem::subsystem::NotMade;
@@ -51,6 +52,17 @@ impl Model for Running {
         IsHostSize r.subsystem.blocks × ((length r.keys.items ≡ r.subsystem.blocks) × IsTrue (are_areas (4096 * r.subsystem.blocks) r.prefixes)) };
 }
 
+/// A key of zero for each of so many blocks.
+fn zero_keys<S: Supply>(alloc: Global, supply: &mut S, blocks: usize) -> Result<Vec<u8>, AllocError>
+    ensures keys { IfOk result (λ keys. keys.items ≡ replicate blocks 0) }
+    ensures memory { OnErr result (S.refused supply.new ≡ true) }
+{
+    let mut keys = Vec::new(alloc);
+    make_room(supply, &mut keys, blocks)?;
+    keys.resize(blocks, 0).unwrap();
+    Ok(keys)
+}
+
 /// An event on storage that is lent.
 fn enter_lent(
     subsystem: &mut ChannelSubsystem<Rotating>,
@@ -69,22 +81,24 @@ fn enter_lent(
 }
 
 impl Running {
-    /// The machine that is set up so, for storage of so many blocks of 4,096 bytes, with keys and prefixes of zero. The set-up is handed
-    /// back where there is no memory, or the blocks are not 16 to 524,288.
+    /// The machine that is set up so, for storage of so many blocks of 4,096 bytes, with keys and prefixes of zero, in what room a supply
+    /// has. The set-up is handed back where the supply refuses a growth, or the blocks are not 16 to 524,288.
     #[inline(never)]
-    pub fn new(
+    pub fn new_with<S: Supply>(
         alloc: Global,
+        supply: &mut S,
         config: Config,
         blocks: u32,
         keeping: Keeping,
     ) -> Result<Running, Config>
         ensures started { IfOk result (λ r. IsStarted config blocks keeping r) }
         ensures handed_back { IfErr result (λ c. c ≡ config) }
+        ensures memory { OnErr result ((S.refused supply.new ≡ true) ⊎ (¬ IsHostSize blocks)) }
     {
-        let Ok(keys) = vec![in alloc; 0; blocks as usize] else {
+        let Ok(keys) = zero_keys(alloc, supply, blocks as usize) else {
             return Err(config);
         };
-        match ChannelSubsystem::new(alloc, config, blocks, keeping, Rotating) {
+        match ChannelSubsystem::new_with(alloc, supply, config, blocks, keeping, Rotating) {
             Ok(subsystem) => Ok(Running {
                 subsystem,
                 keys,

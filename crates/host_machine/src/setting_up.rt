@@ -1,7 +1,9 @@
 //! Setting a machine up, call by call.
 
-ghost use Rattle.std.specs.Prelude.{map};
+ghost use Rattle.std.specs.Prelude.{◌≡◌, Err, map, true};
 ghost use Rattle.channel_config.specs.Refusing.{Configures};
+ghost use Rattle.channel_config.specs.declared.config.ConfigFault.TheVariants as config_fault;
+ghost use Rattle.host_machine.specs.Answers.{below, no_memory};
 ghost use Rattle.host_machine.specs.Hosts.{SetsUp};
 ghost use Rattle.host_machine.specs.Settings as spec;
 ghost use Rattle.host_machine.specs.SettingLines.{SetsUpLine, TakesLine, TakesWords};
@@ -11,7 +13,7 @@ use crate::host_machine::HostMachine;
 use crate::lines::{line_number, words_of};
 use channel_config::config::{Config, ConfigFault};
 use channel_config::parts::{ConcurrentSense, PathReturn, UnitKind};
-use memory::Allocator;
+use memory::{Allocator, Supply};
 use script_rows::settings::{self, setting_row};
 use script_rows::words::{LineFault, LineRule};
 use std::alloc::Global;
@@ -42,20 +44,25 @@ pub enum HostSetting<'a> {
 }
 
 /// Takes a setting; one that is refused changes nothing.
-fn configure(config: &mut Config, setting: &HostSetting<'_>) -> Result<(), ConfigFault>
-    ensures { Configures config.old config.new result (spec.set config.old setting.now) }
+fn configure<S: Supply>(
+    supply: &mut S,
+    config: &mut Config,
+    setting: &HostSetting<'_>,
+) -> Result<(), ConfigFault>
+    ensures does { Configures config.old config.new result (spec.set config.old setting.now) }
+    ensures memory { result ≡ Err config_fault.NoMemory → S.refused supply.new ≡ true }
 {
     match setting {
         HostSetting::Sets(count) => config.sets(*count),
-        HostSetting::Path(chpid) => config.path(*chpid),
-        HostSetting::Unit(number) => config.unit(*number, UnitKind::Block),
+        HostSetting::Path(chpid) => config.path_with(supply, *chpid),
+        HostSetting::Unit(number) => config.unit_with(supply, *number, UnitKind::Block),
         HostSetting::Share(units) => config.share(units),
         HostSetting::Subchannel {
             word,
             device,
             unit,
             chpids,
-        } => config.subchannel(*word, *device, *unit, chpids),
+        } => config.subchannel_with(supply, *word, *device, *unit, chpids),
         HostSetting::ConcurrentSense(choice) => {
             config.set_concurrent_sense(*choice);
             Ok(())
@@ -68,52 +75,75 @@ fn configure(config: &mut Config, setting: &HostSetting<'_>) -> Result<(), Confi
 }
 
 impl HostMachine {
-    /// A setting: 0, or the rule that it breaks, `NO_MEMORY`, or `AT_OTHER_STAGE` where the machine runs. A refused one changes
-    /// nothing.
+    /// The same as `set_up_with`, in what room the allocator has.
     pub fn set_up(&mut self, setting: &HostSetting<'_>) -> i32
         ensures { SetsUp self.old (λ s. spec.set s setting.now) result self.new }
     {
+        self.set_up_with(&mut Allocator { refused: false }, setting)
+    }
+
+    /// A setting: 0, or the rule that it breaks, `NO_MEMORY` where the supply refused a growth, or `AT_OTHER_STAGE` where the machine
+    /// runs. A refused one changes nothing.
+    pub fn set_up_with<S: Supply>(&mut self, supply: &mut S, setting: &HostSetting<'_>) -> i32
+        ensures sets { SetsUp self.old (λ s. spec.set s setting.now) result self.new }
+        ensures memory { result ≡ below no_memory → S.refused supply.new ≡ true }
+    {
         match self {
-            HostMachine::SettingUp(config) => config_number(configure(config, setting)),
+            HostMachine::SettingUp(config) => config_number(configure(supply, config, setting)),
             HostMachine::Runs(_) => AT_OTHER_STAGE,
         }
     }
 }
 
 /// What the words of a line say of the set-up: 0, or less where the line or its setting is refused.
-fn set_up_words(alloc: Global, config: &mut Config, words: &[&[u8]]) -> i32
-    ensures { TakesWords (map (λ w. w.now) words.now) config.old result config.new }
+fn set_up_words<S: Supply>(
+    alloc: Global,
+    supply: &mut S,
+    config: &mut Config,
+    words: &[&[u8]],
+) -> i32
+    ensures takes { TakesWords (map (λ w. w.now) words.now) config.old result config.new }
+    ensures memory { result ≡ below no_memory → S.refused supply.new ≡ true }
 {
     let [first, others @ ..] = words else {
         return line_number(LineRule::UnknownWord);
     };
-    let mut supply = Allocator { refused: false };
-    match setting_row(alloc, &mut supply, first, others) {
-        Ok(Some(setting)) => config_number(settings::configure(&mut supply, config, &setting)),
+    match setting_row(alloc, supply, first, others) {
+        Ok(Some(setting)) => config_number(settings::configure(supply, config, &setting)),
         Ok(None) => line_number(LineRule::UnknownWord),
         Err(LineFault::Rule(rule)) => line_number(rule),
         Err(LineFault::NoMemory) => NO_MEMORY,
     }
 }
 
-/// What a line says of the set-up; `NO_MEMORY` where there is none for its words.
-fn set_up_line(alloc: Global, config: &mut Config, line: &[u8]) -> i32
-    ensures { TakesLine line.now config.old result config.new }
+/// What a line says of the set-up; `NO_MEMORY` where the supply refused a growth.
+fn set_up_line<S: Supply>(alloc: Global, supply: &mut S, config: &mut Config, line: &[u8]) -> i32
+    ensures takes { TakesLine line.now config.old result config.new }
+    ensures memory { result ≡ below no_memory → S.refused supply.new ≡ true }
 {
-    match words_of(alloc, line) {
-        Ok(words) => set_up_words(alloc, config, words.as_slice()),
+    match words_of(alloc, supply, line) {
+        Ok(words) => set_up_words(alloc, supply, config, words.as_slice()),
         Err(_) => NO_MEMORY,
     }
 }
 
 impl HostMachine {
-    /// The first line of a text, which is one of a script that configures a machine: `storage`, `sets`, `path`, `unit`, `share` or
-    /// `sub`. 0, or the rule that it breaks, as a line or as a setting; the kind that a `unit` line names counts for nothing.
+    /// The same as `set_up_line_with`, in what room the allocator has.
     pub fn set_up_line(&mut self, alloc: Global, line: &[u8]) -> i32
         ensures { SetsUpLine line.now self.old result self.new }
     {
+        self.set_up_line_with(alloc, &mut Allocator { refused: false }, line)
+    }
+
+    /// The first line of a text, which is one of a script that configures a machine: `storage`, `sets`, `path`, `unit`, `share` or
+    /// `sub`. 0, or the rule that it breaks, as a line or as a setting, or `NO_MEMORY` where the supply refused a growth; the kind that
+    /// a `unit` line names counts for nothing.
+    pub fn set_up_line_with<S: Supply>(&mut self, alloc: Global, supply: &mut S, line: &[u8]) -> i32
+        ensures sets { SetsUpLine line.now self.old result self.new }
+        ensures memory { result ≡ below no_memory → S.refused supply.new ≡ true }
+    {
         match self {
-            HostMachine::SettingUp(config) => set_up_line(alloc, config, line),
+            HostMachine::SettingUp(config) => set_up_line(alloc, supply, config, line),
             HostMachine::Runs(_) => AT_OTHER_STAGE,
         }
     }

@@ -9,8 +9,8 @@ ghost use Rattle.script.specs.Reading.{BadAt};
 mod draft;
 mod kept;
 pub mod lines;
-mod pieces;
-mod readable;
+pub mod pieces;
+pub mod readable;
 pub mod text;
 
 use crate::draft::draft_of;

@@ -156,6 +156,14 @@ impl<J: MachineBrand> ScriptedMachine<J> {
         self.core.subsystem().last_reply()
     }
 
+    /// The subsystem, to look at.
+    pub fn subsystem(&self) -> &Subsystem<Rotating>
+        ensures state { result.now.state ≡ self.now.past.state }
+        ensures history { result.now.history ≡ self.now.past.history }
+    {
+        self.core.subsystem()
+    }
+
     /// Performs the event that is kept so, whose bytes stand there, from its slot.
     fn perform<M: Supply>(
         &mut self,

@@ -414,7 +414,7 @@ fn put_told<S: Sink>(sink: &mut S, told: &ActionResult) -> bool
     }
 }
 
-fn put_outcome<S: Sink>(sink: &mut S, outcome: &Result<ActionResult, Fault>) -> bool
+pub fn put_outcome<S: Sink>(sink: &mut S, outcome: &Result<ActionResult, Fault>) -> bool
     ensures { Puts (S.seen sink.old) (spec.outcome_text outcome.now) (S.seen sink.new) result }
 {
     match outcome {

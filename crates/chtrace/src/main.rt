@@ -1,0 +1,64 @@
+//! `chtrace`: explains a script for a channel subsystem, which it reads from standard input.
+#![tactic(auto)]
+
+mod outcome;
+mod views;
+
+use crate::outcome::Outcome;
+use crate::views::{show_script, show_words};
+use memory::Allocator;
+use std::env;
+use std::process::ExitCode;
+use trace_words::{Refused, View, read_words};
+
+/// The program's words, or how it ends where it cannot have them.
+fn words_of(rt: &HostRuntime) -> Result<Vec<String>, Outcome> {
+    let mut words = Vec::new(rt.alloc());
+    for word in env::args(rt).map_err(|_| Outcome::NoWords)? {
+        words.push(word).map_err(|_| Outcome::NoMemory)?;
+    }
+    Ok(words)
+}
+
+/// What is told in place of a view: help on standard output, what is wrong with the words on standard error.
+fn tell(rt: &HostRuntime, refused: &Refused) -> Outcome {
+    match refused {
+        Refused::Told(text) => match rt.print(text) {
+            Ok(()) => Outcome::Done { refused: false },
+            Err(_) => Outcome::Unwritten,
+        },
+        Refused::Wrong(text) => {
+            let _ = rt.eprint(text);
+            Outcome::WrongWords
+        }
+        Refused::NoMemory => Outcome::NoMemory,
+    }
+}
+
+/// Serves the program's words.
+fn serve(rt: &HostRuntime) -> Result<Outcome, Outcome> {
+    let owned = words_of(rt)?;
+    let mut words = Vec::new(rt.alloc());
+    for word in owned.iter() {
+        words.push(word.as_str()).map_err(|_| Outcome::NoMemory)?;
+    }
+    let asked = match read_words(rt.alloc(), words.as_slice()) {
+        Ok(asked) => asked,
+        Err(refused) => return Ok(tell(rt, &refused)),
+    };
+    let mut supply = Allocator { refused: false };
+    match asked.view {
+        View::Words => show_words(rt, &mut supply),
+        _ => show_script(rt, &mut supply, &asked),
+    }
+}
+
+fn main(rt: HostRuntime) -> ExitCode {
+    let outcome = match serve(&rt) {
+        Ok(outcome) | Err(outcome) => outcome,
+    };
+    if let Some(line) = outcome.complaint() {
+        let _ = rt.eprintln(line);
+    }
+    ExitCode::from(outcome.status())
+}

@@ -1,0 +1,32 @@
+# Lesson 1: one write of four bytes, from an empty machine to its cleared status.
+# Look at the first word of each stsch: nothing, start pending, active, ended.
+storage 10
+path 10
+unit 0 block
+sub 0 0100 0 10
+put 500 0000CAFE0080FF0000001000
+put 1000 0120000400002000
+put 2000 C1C2C3C4
+enable 0 0 0
+stsch 0 700
+ssch 0 500
+stsch 0 700
+choose 0
+down 0 0
+up 0 0
+stsch 0 700
+down 0 0
+dev 0
+up 0 0
+down 0 0
+dev 0
+up 0 0
+down 0 0
+dev 0
+up 0 0
+stsch 0 700
+tsch 0 600
+tsch 0 600
+down 0 0
+up 0 0
+stsch 0 700

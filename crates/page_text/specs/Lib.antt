@@ -1,0 +1,4 @@
+pub mod Escapes
+pub mod Harmless
+pub mod Marks
+pub mod Pages

@@ -1,0 +1,5 @@
+pub mod Numbers
+pub mod Names
+pub mod Holds
+pub mod SignalTexts
+pub mod SignalFields

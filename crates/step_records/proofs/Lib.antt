@@ -1,0 +1,3 @@
+mod Accounts
+mod Holding
+mod Telling

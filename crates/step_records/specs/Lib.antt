@@ -1,0 +1,6 @@
+pub mod Balance
+pub mod Holds
+pub mod Moves
+pub mod Named
+pub mod Told
+pub mod Lines

@@ -1,0 +1,50 @@
+//! The view `explain`: each line with what it came to, what it took and sent, and what changed.
+
+use crate::answer::put_answer;
+use crate::facts::put_fact;
+use record_text::number::put_decimal;
+use step_records::record::{Fact, Record};
+use step_records::style::{Drawing, Style};
+use step_records::trace::Trace;
+use streams::Sink;
+
+/// Every line that acts, with what it came to, what it took and sent, and what changed; every word is decoded by the names of the
+/// manual (SA22-7832). The numbers of lines are decimal, all others hexadecimal.
+pub fn put_explained<S: Sink>(sink: &mut S, trace: &Trace, style: Style) -> bool {
+    put_all_explained(sink, trace, trace.records.as_slice(), style.drawing)
+}
+
+/// The same of one line, whose records these are, in the characters of Unicode.
+pub fn put_line_explained<S: Sink>(sink: &mut S, trace: &Trace, records: &[Record]) -> bool {
+    put_all_explained(sink, trace, records, Drawing::Drawn)
+}
+
+fn put_all_explained<S: Sink>(
+    sink: &mut S,
+    trace: &Trace,
+    records: &[Record],
+    drawing: Drawing,
+) -> bool {
+    for record in records {
+        if !put_record_explained(sink, trace, record, drawing) {
+            return false;
+        }
+    }
+    true
+}
+
+fn put_record_explained<S: Sink>(
+    sink: &mut S,
+    trace: &Trace,
+    record: &Record,
+    drawing: Drawing,
+) -> bool {
+    let line = trace.text.line(record.line);
+    match &record.fact {
+        Fact::Event => {
+            put_decimal(sink, record.line) && sink.put(b" ") && sink.put(line) && sink.put(b"\n")
+        }
+        Fact::Answer(outcome) => put_answer(sink, line, outcome),
+        fact => put_fact(sink, &trace.parties, drawing, fact),
+    }
+}

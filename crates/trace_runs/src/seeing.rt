@@ -1,0 +1,177 @@
+//! Looks at a machine.
+
+use chan_model::names::Path;
+use chan_model::unit_state::UnitState;
+use machine::looks::Looks;
+use memory::{Supply, push};
+use std::alloc::{AllocError, Global};
+use step_records::parties::{Parties, word_of};
+use step_records::record::Signal;
+use step_records::sight::{PATH_IDENTIFIERS, Sight, SubchannelSight, WaitingSignals};
+use wires::Wires;
+
+/// Why there is no sight.
+#[derive(Clone, Copy, Debug, PartialEq, Eq)]
+pub enum SightFault {
+    /// A growth was refused.
+    NoMemory,
+    /// A subchannel or a unit that was named is not there.
+    NotThere,
+}
+
+impl From<AllocError> for SightFault {
+    ghost use Rattle.std.specs.Prelude.{◌≡◌};
+    ghost use Rattle.trace_runs.specs.declared.seeing.SightFault.TheVariants.{NoMemory};
+
+    ghost from_gives = { λ _ fault. fault ≡ NoMemory };
+
+    fn from(_: AllocError) -> Self {
+        SightFault::NoMemory
+    }
+}
+
+/// The signals that wait on the wire down of a path.
+fn waiting_down<S: Supply>(
+    alloc: Global,
+    supply: &mut S,
+    wires: &Wires,
+    path: Path,
+) -> Result<WaitingSignals, SightFault> {
+    let mut signals = Vec::new(alloc);
+    for index in 0..usize::MAX {
+        match wires.down_at(path, index) {
+            Some(signal) => push(supply, &mut signals, Signal::Down(signal.own()))?,
+            None => return Ok(WaitingSignals { signals }),
+        }
+    }
+    Err(SightFault::NotThere)
+}
+
+/// The signals that wait on the wire up of a path.
+fn waiting_up<S: Supply>(
+    alloc: Global,
+    supply: &mut S,
+    wires: &Wires,
+    path: Path,
+) -> Result<WaitingSignals, SightFault> {
+    let mut signals = Vec::new(alloc);
+    for index in 0..usize::MAX {
+        match wires.up_at(path, index) {
+            Some(signal) => push(supply, &mut signals, Signal::Up(signal.own()))?,
+            None => return Ok(WaitingSignals { signals }),
+        }
+    }
+    Err(SightFault::NotThere)
+}
+
+/// The signals that wait on the wires down, by path.
+fn all_down<S: Supply>(
+    alloc: Global,
+    supply: &mut S,
+    wires: &Wires,
+) -> Result<Vec<WaitingSignals>, SightFault> {
+    let mut queues = Vec::new(alloc);
+    for index in 0..8u32 {
+        let Some(path) = Path::new(index) else {
+            return Err(SightFault::NotThere);
+        };
+        let waiting = waiting_down(alloc, supply, wires, path)?;
+        push(supply, &mut queues, waiting)?;
+    }
+    Ok(queues)
+}
+
+/// The signals that wait on the wires up, by path.
+fn all_up<S: Supply>(
+    alloc: Global,
+    supply: &mut S,
+    wires: &Wires,
+) -> Result<Vec<WaitingSignals>, SightFault> {
+    let mut queues = Vec::new(alloc);
+    for index in 0..8u32 {
+        let Some(path) = Path::new(index) else {
+            return Err(SightFault::NotThere);
+        };
+        let waiting = waiting_up(alloc, supply, wires, path)?;
+        push(supply, &mut queues, waiting)?;
+    }
+    Ok(queues)
+}
+
+/// What a look at the subchannel that a word names shows.
+fn seen_subchannel<S: Supply, L: Looks>(
+    alloc: Global,
+    supply: &mut S,
+    looks: &L,
+    word: u32,
+) -> Result<SubchannelSight, SightFault> {
+    let Some(sub) = looks.subchannel(word) else {
+        return Err(SightFault::NotThere);
+    };
+    Ok(SubchannelSight {
+        state: sub.state.copy(),
+        down: all_down(alloc, supply, &sub.wires)?,
+        up: all_up(alloc, supply, &sub.wires)?,
+    })
+}
+
+/// The subchannels, in the order of the parties.
+fn all_subchannels<S: Supply, L: Looks>(
+    alloc: Global,
+    supply: &mut S,
+    looks: &L,
+    parties: &Parties,
+) -> Result<Vec<SubchannelSight>, SightFault> {
+    let mut subchannels = Vec::new(alloc);
+    for index in 0..parties.subchannels.len() {
+        let word = word_of(parties.subchannels[index].id);
+        let seen = seen_subchannel(alloc, supply, looks, word)?;
+        push(supply, &mut subchannels, seen)?;
+    }
+    Ok(subchannels)
+}
+
+/// The first units, so many.
+fn all_units<S: Supply, L: Looks>(
+    alloc: Global,
+    supply: &mut S,
+    looks: &L,
+    count: usize,
+) -> Result<Vec<UnitState>, SightFault> {
+    let mut units = Vec::new(alloc);
+    for number in 0..count {
+        if number >= 0x1_0000 {
+            return Err(SightFault::NotThere);
+        }
+        let Some(unit) = looks.unit(number as u32) else {
+            return Err(SightFault::NotThere);
+        };
+        push(supply, &mut units, unit.copy())?;
+    }
+    Ok(units)
+}
+
+/// Of each channel path whether it is up.
+fn all_paths<L: Looks>(looks: &L) -> [bool; PATH_IDENTIFIERS] {
+    let mut up = [false; PATH_IDENTIFIERS];
+    for chpid in 0..PATH_IDENTIFIERS {
+        up[chpid] = looks.is_path_up(chpid as u8);
+    }
+    up
+}
+
+/// What a look shows. There is no memory only where the supply refused a growth.
+pub fn seen<S: Supply, L: Looks>(
+    alloc: Global,
+    supply: &mut S,
+    looks: &L,
+    parties: &Parties,
+) -> Result<Sight, SightFault> {
+    Ok(Sight {
+        subchannels: all_subchannels(alloc, supply, looks, parties)?,
+        units: all_units(alloc, supply, looks, parties.units.len())?,
+        up: all_paths(looks),
+        requested: looks.requested_subclasses(),
+        reports: looks.report_count(),
+    })
+}

@@ -1,0 +1,296 @@
+//! A machine whose steps are told: for each action what it came to, and the facts of what it did.
+
+ghost use Rattle.std.specs.Prelude.{◌≡◌, ◌≤◌, ◌++◌, ◌∷◌, [], Err, IfOk, IfNone, IfSome, IsTrue, ◌↔◌, OnOk, OnErr, length, true, slice_get};
+ghost use Rattle.machine_model.specs.State.{opening_of};
+ghost use Rattle.subsystem.specs.Keeping.{all_serials};
+ghost use Rattle.core_lock.specs.Directory.{directory_of};
+ghost use Rattle.script_rows.specs.Slots.{action_in, action_length};
+ghost use Rattle.script_runner.specs.Acting as acting;
+ghost use Rattle.script_runner.specs.Acting.{IsAudited, IsOpening};
+ghost use Rattle.step_records.specs.Balance.{IsBalanced};
+ghost use Rattle.step_records.specs.Told as told_spec;
+ghost use Rattle.step_records.specs.Told.{answers_of};
+ghost use Rattle.trace_runs.specs.Tracing.{HasStepped, HasTold, answered_line};
+
+use crate::TraceFault;
+use crate::seeing::{SightFault, seen};
+use chan_events::reply::{Entry, Reply};
+use chan_model::fault::Fault;
+use channel_config::config::Config;
+use channel_config::parts::PathReturn;
+use core_lock::naming::MachineBrand;
+use core_lock::parts::Parts;
+use core_lock::supplies::CoreSupply;
+use memory::{Supply, push};
+use path_select::Rotating;
+use script_rows::slots::KeptAction;
+use script_runner::buffers::EventBuffers;
+use script_runner::scripted_machine::{Acted, ScriptedMachine};
+use script_text::ActionResult;
+use std::alloc::{AllocError, Global};
+use std::marker::Model;
+use step_records::balance::is_balanced;
+use step_records::facts::add_facts;
+use step_records::parties::Parties as Participants;
+use step_records::record::{Fact, Record};
+use step_records::requests::Requests;
+use step_records::sight::Sight;
+use step_records::step::{FactFault, Step, StepFacts, named_by};
+use subsystem::subsystem::Subsystem;
+
+/// What became of an action.
+#[derive(Clone, Copy)]
+pub enum Stepped {
+    /// An event was accepted.
+    Accepted,
+    /// A look changed nothing.
+    Looked,
+    /// It was refused, and all is as before.
+    Refused(Fault),
+}
+
+/// A machine, and what a look showed of it after the last step.
+#[derive(Drop)]
+pub struct Tracer<J: MachineBrand> {
+    alloc: Global,
+    machine: ScriptedMachine<J>,
+    buffers: EventBuffers,
+    parties: Participants,
+    path_return: PathReturn,
+    requests: Requests,
+    sight: Sight,
+}
+
+impl<J: MachineBrand> Model for Tracer<J> {
+    ghost use Rattle.trace_runs.specs.Tracing.{Traced};
+
+    ghost Value = { Traced };
+
+    ghost view = { λ t. record { machine = t.machine; sight = t.sight } };
+}
+
+/// The outcome of an action, as it is told.
+fn outcome_of<J: MachineBrand>(
+    machine: &ScriptedMachine<J>,
+    acted: &Result<Acted, Fault>,
+) -> Result<ActionResult, Fault>
+    ensures { result ≡ acting.outcome_of acted.now machine.now.past.history }
+{
+    match acted {
+        Ok(Acted::Replied) => match machine.last_reply() {
+            Some(reply) => Ok(ActionResult::Reply(reply.own())),
+            None => Ok(ActionResult::Reply(Reply::Done)),
+        },
+        Ok(Acted::Looked(found)) => Ok(ActionResult::Serials(*found)),
+        Err(fault) => Err(*fault),
+    }
+}
+
+/// The last entry of a history; None where there is none.
+fn last_entry(subsystem: &Subsystem<Rotating>) -> Option<Entry> {
+    let history = subsystem.history();
+    match history.len() {
+        0 => None,
+        count => history.get(count - 1),
+    }
+}
+
+/// A fault of a look, at this line.
+fn fault_of(fault: SightFault, line: u64) -> TraceFault {
+    match fault {
+        SightFault::NoMemory => TraceFault::NoMemory,
+        SightFault::NotThere => TraceFault::Unbalanced(line),
+    }
+}
+
+/// A fault of the facts of this line.
+fn fault_of_facts(fault: FactFault, line: u64) -> TraceFault {
+    match fault {
+        FactFault::NoMemory => TraceFault::NoMemory,
+        FactFault::NotThere => TraceFault::Unbalanced(line),
+    }
+}
+
+/// What a line came to, as the first facts of its step.
+fn first_facts<S: Supply>(
+    alloc: Global,
+    supply: &mut S,
+    line: u64,
+    outcome: Result<ActionResult, Fault>,
+) -> Result<StepFacts, AllocError>
+    ensures { IfOk result (λ facts. facts ≡ record { line = line; answers = answered_line line outcome ∷ []; moves = []; holds = [] }) }
+{
+    let mut facts = StepFacts::new(alloc, line);
+    facts.push(supply, Fact::Event)?;
+    facts.push_answer(supply, outcome)?;
+    Ok(facts)
+}
+
+/// Adds records behind others.
+fn add_all<S: Supply>(
+    supply: &mut S,
+    list: Vec<Record>,
+    records: &mut Vec<Record>,
+) -> Result<(), AllocError>
+    ensures { OnOk result (records.new.items ≡ records.old.items ++ list.items) }
+{
+    for told in list {
+        push(supply, records, told)?;
+    }
+    Ok(())
+}
+
+impl<J: MachineBrand> Tracer<J> {
+    /// A machine at the opening of a configuration.
+    pub fn new<S: CoreSupply>(
+        alloc: Global,
+        supply: &mut S,
+        config: Config,
+        parts: Parts,
+    ) -> Result<Tracer<J>, TraceFault>
+        requires named { parts.name ≡ J.name }
+        requires set_up { J.setup ≡ config }
+        requires directory { parts.name.directory ≡ directory_of (opening_of config) }
+        requires serials { parts.serials ≡ all_serials (opening_of config) }
+        ensures { IfOk result (λ tracer. IsOpening config tracer.machine) }
+    {
+        let parties = Participants::of(alloc, supply, &config)?;
+        let path_return = config.path_return();
+        let requests = Requests::none(alloc, supply, parties.subchannels.len())?;
+        let (machine, _) = ScriptedMachine::<J>::new(alloc, supply, config, parts, 0)?;
+        match seen(alloc, supply, machine.subsystem(), &parties) {
+            Ok(sight) => Ok(Tracer {
+                alloc,
+                machine,
+                buffers: EventBuffers::new(),
+                parties,
+                path_return,
+                requests,
+                sight,
+            }),
+            Err(fault) => Err(fault_of(fault, 0)),
+        }
+    }
+
+    /// The machine, to look at.
+    pub fn subsystem(&self) -> &Subsystem<Rotating>
+        ensures state { result.now.state ≡ self.now.machine.past.state }
+        ensures history { result.now.history ≡ self.now.machine.past.history }
+    {
+        self.machine.subsystem()
+    }
+
+    /// Who there is.
+    pub fn parties(&self) -> &Participants {
+        &self.parties
+    }
+
+    /// What a look shows now.
+    pub fn sight(&self) -> &Sight
+        ensures { result.now ≡ self.now.sight }
+    {
+        &self.sight
+    }
+
+    /// Who there is, and whether the audit found the books that the history has.
+    pub fn finish(self) -> (Participants, bool)
+        ensures { IsTrue result.1 ↔ IsAudited self.machine }
+    {
+        let Tracer {
+            alloc: _,
+            machine,
+            buffers: _,
+            parties,
+            path_return: _,
+            requests: _,
+            sight: _,
+        } = self;
+        (parties, machine.audited())
+    }
+
+    /// Performs the action of a line, and adds what it came to and the facts of what it did. Of an action that is refused there is
+    /// only what it came to. There is no memory only where the supply refused a growth; then the records may lack facts.
+    #[tactic(auto, using(crate::proofs::Stepping::stepped_quiet, crate::proofs::Stepping::stepped_told))]
+    pub fn step<S: Supply>(
+        &mut self,
+        supply: &mut S,
+        line: u64,
+        action: &KeptAction,
+        bytes: &[u8],
+        records: &mut Vec<Record>,
+    ) -> Result<Stepped, TraceFault>
+        requires { action_length action.now ≤ length bytes.now }
+        ensures { OnOk result (HasStepped self.old line (action_in action.now bytes.now) records.old.items records.new.items self.new) }
+    {
+        let acted = self.machine.act(supply, action, bytes, &mut self.buffers);
+        let outcome = outcome_of(&self.machine, &acted);
+        let facts = first_facts(self.alloc, supply, line, outcome)?;
+        match acted {
+            Ok(Acted::Replied) => {
+                self.tell(supply, line, facts, records)?;
+                Ok(Stepped::Accepted)
+            }
+            Ok(Acted::Looked(_)) => {
+                add_all(supply, facts.into_records(), records)?;
+                Ok(Stepped::Looked)
+            }
+            Err(fault) => {
+                add_all(supply, facts.into_records(), records)?;
+                Ok(Stepped::Refused(fault))
+            }
+        }
+    }
+
+    /// Adds the facts of the event that was accepted last, which account for all that moved.
+    fn tell<S: Supply>(
+        &mut self,
+        supply: &mut S,
+        line: u64,
+        facts: StepFacts,
+        records: &mut Vec<Record>,
+    ) -> Result<(), TraceFault>
+        ensures { OnOk result (HasTold self.old facts.answers records.old.items records.new.items self.new) }
+    {
+        let after = match seen(self.alloc, supply, self.machine.subsystem(), &self.parties) {
+            Ok(after) => after,
+            Err(fault) => return Err(fault_of(fault, line)),
+        };
+        let list = self.facts_to(supply, line, facts, &after)?;
+        let balanced = is_balanced(self.alloc, supply, &self.sight, list.as_slice(), &after)?;
+        if !balanced || self.requests.subclasses() != after.requested {
+            return Err(TraceFault::Unbalanced(line));
+        }
+        self.sight = after;
+        add_all(supply, list, records)?;
+        Ok(())
+    }
+
+    /// The facts of the event that was accepted last, where a look now shows this, behind those of its line.
+    fn facts_to<S: Supply>(
+        &mut self,
+        supply: &mut S,
+        line: u64,
+        facts: StepFacts,
+        after: &Sight,
+    ) -> Result<Vec<Record>, TraceFault>
+        ensures answers { IfOk result (λ list. answers_of list.items ≡ facts.answers) }
+        ensures kept { self.new ≡ self.old }
+    {
+        let Some(entry) = last_entry(self.machine.subsystem()) else {
+            return Err(TraceFault::Unbalanced(line));
+        };
+        let step = Step {
+            parties: &self.parties,
+            path_return: self.path_return,
+            subchannel: named_by(&self.parties, &entry.event),
+            before: &self.sight,
+            entry: &entry,
+            after,
+        };
+        let mut facts = facts;
+        match add_facts(supply, &step, &mut self.requests, &mut facts) {
+            Ok(()) => Ok(facts.into_records()),
+            Err(fault) => Err(fault_of_facts(fault, line)),
+        }
+    }
+}

@@ -1,0 +1,246 @@
+//! The part of a talk at a machine that is opened.
+
+use crate::asking::{Asked, Question, asked_of};
+use crate::codes::{Executed, instruction_in, put_code_note};
+use crate::due::DueLine;
+use crate::input::Came;
+use crate::notes::put_notes;
+use crate::queries::{Looked, put_answer_to};
+use crate::spoken::action_of;
+use crate::stepping::Stepping;
+use crate::talk::{Heard, Talk, Turn};
+use chan_model::fault::Fault;
+use core_lock::naming::MachineBrand;
+use core_lock::supplies::CoreSupply;
+use line_reasons::checker::Checker;
+use record_text::number::put_hexadecimal;
+use refusal_reasons::{Refused, put_refusal_reason};
+use script::readable::has_words;
+use script_rows::slots::ActionSlot;
+use script_text::held::Held;
+use script_text::put_outcome;
+use std::io::BufRead;
+use step_records::record::{Fact, Record};
+use streams::Sink;
+use trace_runs::TraceFault;
+use trace_runs::tracer::Stepped;
+
+/// A machine that is talked with: what was said so far, and how many lines were kept.
+#[derive(Drop)]
+pub(crate) struct Partner<J: MachineBrand> {
+    pub(crate) checker: Checker,
+    pub(crate) count: u64,
+    pub(crate) stepping: Stepping<J>,
+}
+
+/// What a line came to, as a script's run prints it behind the number of the line.
+fn put_outcome_of<S: Sink>(sink: &mut S, records: &[Record]) -> bool {
+    for record in records {
+        if let Fact::Answer(outcome) = &record.fact {
+            return put_outcome(sink, outcome);
+        }
+    }
+    true
+}
+
+/// What the code of an instruction says, where the records tell of one.
+fn put_code_of<S: Sink>(sink: &mut S, asked: &Option<Executed>, records: &[Record]) -> bool {
+    for record in records {
+        if let Fact::Answer(Ok(result)) = &record.fact {
+            return put_code_note(sink, asked, result);
+        }
+    }
+    true
+}
+
+impl<R: BufRead + Drop, S: Sink> Talk<'_, R, S> {
+    /// Performs the first action, and then talks on until a line is taken back or no line comes any more.
+    pub(crate) fn talk_with<J: MachineBrand, M: CoreSupply>(
+        &mut self,
+        supply: &mut M,
+        partner: &mut Partner<J>,
+        came: Came,
+        first: &[u8],
+    ) -> Result<Turn, TraceFault> {
+        self.act(supply, partner, came, first)?;
+        let mut line = Vec::new(self.alloc);
+        for _ in 0..u64::MAX {
+            let came = self.input.next(&mut line)?;
+            if came == Came::Ended || !self.talked.whole {
+                break;
+            }
+            if let Heard::Back = self.hear(supply, partner, came, line.as_slice())? {
+                return Ok(Turn::Back);
+            }
+        }
+        Ok(Turn::Ended)
+    }
+
+    /// Takes a line at the machine.
+    fn hear<J: MachineBrand, M: CoreSupply>(
+        &mut self,
+        supply: &mut M,
+        partner: &mut Partner<J>,
+        came: Came,
+        line: &[u8],
+    ) -> Result<Heard, TraceFault> {
+        if came == Came::Read {
+            match asked_of(line) {
+                Some(Asked::Script) => {}
+                Some(Asked::Back) => return self.take_back(),
+                Some(Asked::Question(question)) => return self.tell(supply, partner, question),
+                Some(Asked::Turn { subchannel, most }) => {
+                    return self.turn(supply, partner, subchannel, most);
+                }
+                None => return self.refuse_asking(),
+            }
+        }
+        if !self.is_good(supply, &mut partner.checker, partner.count, line)? {
+            return Ok(Heard::Answered);
+        }
+        partner.count = partner.count.saturating_add(1);
+        if has_words(line) {
+            self.act(supply, partner, came, line)?;
+        } else if came == Came::Read {
+            self.input.keep(line)?;
+            self.answer(b"ok");
+        }
+        Ok(Heard::Answered)
+    }
+
+    /// Performs the action of a line, and answers it where it was read.
+    fn act<J: MachineBrand, M: CoreSupply>(
+        &mut self,
+        supply: &mut M,
+        partner: &mut Partner<J>,
+        came: Came,
+        line: &[u8],
+    ) -> Result<(), TraceFault> {
+        let mut slot = ActionSlot::new();
+        if !action_of(self.alloc, supply, line, &mut slot)? {
+            return Ok(());
+        }
+        let number = partner.count;
+        let tracer = partner.stepping.tracer();
+        let asked = instruction_in(tracer.sight(), tracer.parties(), &slot.kept);
+        let stepped = partner
+            .stepping
+            .perform(supply, number, &slot.kept, slot.bytes())?;
+        if came == Came::Read {
+            self.input.keep(line)?;
+            self.tell_outcome(partner, stepped, &asked, &slot);
+        }
+        Ok(())
+    }
+
+    /// Answers an action: what a script's run prints, and behind two blanks what its code says and what came of it, or why it was
+    /// refused.
+    fn tell_outcome<J: MachineBrand>(
+        &mut self,
+        partner: &Partner<J>,
+        stepped: Stepped,
+        asked: &Option<Executed>,
+        slot: &ActionSlot,
+    ) {
+        let records = partner.stepping.records();
+        let whole = put_outcome_of(self.sink, records)
+            && match stepped {
+                Stepped::Refused(fault) => {
+                    self.talked.refused = true;
+                    self.put_refusal(partner, &fault, slot)
+                }
+                Stepped::Accepted | Stepped::Looked => {
+                    put_code_of(self.sink, asked, records)
+                        && put_notes(self.sink, partner.stepping.tracer().parties(), records)
+                }
+            };
+        if !(whole && self.sink.put(b"\n")) {
+            self.talked.whole = false;
+        }
+    }
+
+    /// Why an action was refused, two blanks before it.
+    fn put_refusal<J: MachineBrand>(
+        &mut self,
+        partner: &Partner<J>,
+        fault: &Fault,
+        slot: &ActionSlot,
+    ) -> bool {
+        let action = slot.kept.with(slot.bytes());
+        let tracer = partner.stepping.tracer();
+        let refused = Refused {
+            action: &action,
+            fault,
+            subchannels: tracer.parties().subchannels.as_slice(),
+            operand: &[],
+        };
+        self.sink.put(b"  ") && put_refusal_reason(self.sink, tracer.subsystem(), &refused)
+    }
+
+    /// Answers a look.
+    fn tell<J: MachineBrand, M: CoreSupply>(
+        &mut self,
+        supply: &mut M,
+        partner: &Partner<J>,
+        question: Question,
+    ) -> Result<Heard, TraceFault> {
+        let due = partner.stepping.due(supply)?;
+        let looked = Looked {
+            sight: partner.stepping.tracer().sight(),
+            parties: partner.stepping.tracer().parties(),
+        };
+        if !put_answer_to(self.sink, &looked, due.as_slice(), question) {
+            self.talked.whole = false;
+        }
+        Ok(Heard::Answered)
+    }
+
+    /// Performs lines that are due for a subchannel and its unit, so many at most, and answers how many: `moved 5` where so many were,
+    /// `quiet 5` where nothing was due after them.
+    fn turn<J: MachineBrand, M: CoreSupply>(
+        &mut self,
+        supply: &mut M,
+        partner: &mut Partner<J>,
+        subchannel: u32,
+        most: u32,
+    ) -> Result<Heard, TraceFault> {
+        for count in 0..most {
+            let due = partner.stepping.due_for(supply, subchannel)?;
+            let number = partner.count.saturating_add(1);
+            match partner
+                .stepping
+                .perform_due(supply, number, due.as_slice())?
+            {
+                Some(line) => self.keep_due(partner, line)?,
+                None => {
+                    self.tell_count(b"quiet ", count);
+                    return Ok(Heard::Answered);
+                }
+            }
+        }
+        self.tell_count(b"moved ", most);
+        Ok(Heard::Answered)
+    }
+
+    /// Keeps a line that was due and was performed.
+    fn keep_due<J: MachineBrand>(
+        &mut self,
+        partner: &mut Partner<J>,
+        line: DueLine,
+    ) -> Result<(), TraceFault> {
+        partner.count = partner.count.saturating_add(1);
+        let mut text = Held::new();
+        let _whole = line.put(&mut text);
+        self.input.keep(text.bytes())
+    }
+
+    /// Answers a count, in hexadecimal digits.
+    fn tell_count(&mut self, word: &[u8], count: u32) {
+        if !(self.sink.put(word)
+            && put_hexadecimal(self.sink, u64::from(count))
+            && self.sink.put(b"\n"))
+        {
+            self.talked.whole = false;
+        }
+    }
+}

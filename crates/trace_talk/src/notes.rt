@@ -1,0 +1,73 @@
+//! What is told of an action behind its answer.
+
+use record_text::names::kind_of;
+use record_text::put_signal;
+use record_text::told::{put_path_state, put_program, put_report, put_request_short};
+use step_records::parties::Parties;
+use step_records::record::{Fact, Moved, Record};
+use streams::Sink;
+use word_names::{put_count, put_short_status, put_status_names};
+
+/// What is told behind an answer: programs that went on, status, requests, reports, paths and signals that were lost, parted by
+/// semicolons, and before them two blanks; nothing where there are none.
+pub(crate) fn put_notes<S: Sink>(sink: &mut S, parties: &Parties, records: &[Record]) -> bool {
+    let mut mark: &[u8] = b"  ";
+    for record in records {
+        if is_noted(&record.fact) {
+            if !(sink.put(mark) && put_note(sink, parties, &record.fact)) {
+                return false;
+            }
+            mark = b"; ";
+        }
+    }
+    true
+}
+
+/// Whether a fact is told behind an answer.
+fn is_noted(fact: &Fact) -> bool {
+    matches!(
+        fact,
+        Fact::PathState { .. }
+            | Fact::Signal {
+                moved: Moved::Lost | Moved::Vanished,
+                ..
+            }
+            | Fact::Program { .. }
+            | Fact::StatusMade { .. }
+            | Fact::StatusCleared { .. }
+            | Fact::Request { .. }
+            | Fact::Report { .. }
+    )
+}
+
+/// One fact in few words.
+fn put_note<S: Sink>(sink: &mut S, parties: &Parties, fact: &Fact) -> bool {
+    match fact {
+        Fact::PathState { chpid, up } => put_path_state(sink, *chpid, *up),
+        Fact::Signal { wire, signal, .. } => {
+            sink.put(b"lost: ") && put_signal(sink, signal, kind_of(parties, wire.subchannel))
+        }
+        Fact::Program { start, stage, .. } => put_program(sink, *start, *stage),
+        Fact::StatusMade { words, .. } => put_status(sink, words),
+        Fact::StatusCleared { .. } => sink.put(b"status cleared"),
+        Fact::Request {
+            subclass,
+            change,
+            ..
+        } => put_request_short(sink, *subclass, *change),
+        Fact::Report { change, crw } => put_report(sink, *crw, *change),
+        _ => true,
+    }
+}
+
+/// Status that was made pending: `STATUS primary, secondary; CE, DE; count 0`.
+fn put_status<S: Sink>(sink: &mut S, words: &[u32; 3]) -> bool {
+    let device = (words[2] / 0x100_0000) as u8;
+    let subchannel = (words[2] / 0x1_0000 % 0x100) as u8;
+    sink.put(b"STATUS ")
+        && put_status_names(sink, words[0])
+        && (device == 0 && subchannel == 0
+            || sink.put(b"; ") && put_short_status(sink, device, subchannel))
+        && sink.put(b"; ")
+        && put_count(sink, words[2])
+}

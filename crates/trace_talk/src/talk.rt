@@ -1,0 +1,291 @@
+//! A talk: each line is performed as it is read, and answered.
+
+ghost use Rattle.std.specs.Prelude.{◌≡◌};
+ghost use Rattle.core_lock.specs.Directory.{directory_of};
+ghost use Rattle.machine_model.specs.State.{opening_of};
+ghost use Rattle.subsystem.specs.Keeping.{all_serials};
+
+use crate::asking::{Asked, asked_of};
+use crate::at_machine::Partner;
+use crate::input::{Came, Input};
+use crate::spoken::{Spoken, said_by};
+use crate::stepping::Stepping;
+use channel_config::config::{Config, ConfigFault};
+use core_lock::naming::MachineBrand;
+use core_lock::parts::Parts;
+use core_lock::supplies::CoreSupply;
+use line_reasons::checker::{Checker, Checking};
+use line_reasons::printing::put_fault;
+use memory::Supply;
+use script_rows::settings::configure;
+use std::alloc::Global;
+use std::io::BufRead;
+use std::marker::Brand;
+use streams::Sink;
+use trace_runs::TraceFault;
+use trace_runs::tracer::Tracer;
+
+/// What a talk came to.
+#[derive(Clone, Copy, Debug, PartialEq, Eq)]
+pub struct Talked {
+    /// All answers were written; otherwise the sink failed.
+    pub whole: bool,
+    /// Some line was refused.
+    pub refused: bool,
+    /// Some line was bad.
+    pub bad: bool,
+}
+
+/// How a part of a talk ended.
+#[derive(Clone, Copy, Debug, PartialEq, Eq)]
+pub(crate) enum Turn {
+    /// A line was taken back: all that were kept are performed again.
+    Back,
+    /// No line comes any more, or the sink failed.
+    Ended,
+}
+
+/// What becomes of a line.
+#[derive(Clone, Copy, Debug, PartialEq, Eq)]
+pub(crate) enum Heard {
+    /// It was answered.
+    Answered,
+    /// It acts.
+    Acts,
+    /// The line before was taken back.
+    Back,
+}
+
+/// A talk: where its lines come from, where answers go, and what it came to so far.
+#[derive(Drop)]
+pub(crate) struct Talk<'s, R: BufRead + Drop, S: Sink> {
+    pub(crate) alloc: Global,
+    pub(crate) input: Input<R>,
+    pub(crate) sink: &'s mut S,
+    pub(crate) talked: Talked,
+}
+
+/// What lines have set up so far.
+#[derive(Drop)]
+struct SetUp {
+    checker: Checker,
+    config: Config,
+    /// How many lines were kept.
+    count: u64,
+}
+
+/// Talks until no line comes any more: each line is answered by one line, and a question by its lines and an empty one.
+pub fn run_talk<M: CoreSupply, R: BufRead + Drop, S: Sink>(
+    alloc: Global,
+    supply: &mut M,
+    reader: R,
+    sink: &mut S,
+) -> Result<Talked, TraceFault> {
+    let mut talk = Talk {
+        alloc,
+        input: Input::new(alloc, reader),
+        sink,
+        talked: Talked {
+            whole: true,
+            refused: false,
+            bad: false,
+        },
+    };
+    for _ in 0..u64::MAX {
+        if let Turn::Ended = talk.begin(supply)? {
+            break;
+        }
+    }
+    Ok(talk.talked)
+}
+
+impl<R: BufRead + Drop, S: Sink> Talk<'_, R, S> {
+    /// Answers in one line.
+    pub(crate) fn answer(&mut self, text: &[u8]) {
+        if !(self.sink.put(text) && self.sink.put(b"\n")) {
+            self.talked.whole = false;
+        }
+    }
+
+    /// What the lines that were kept and those that come set up, until one acts; then the rest at the machine.
+    fn begin<M: CoreSupply>(&mut self, supply: &mut M) -> Result<Turn, TraceFault> {
+        let mut set_up = SetUp {
+            checker: Checker::new(self.alloc, Checking::Dialogue),
+            config: Config::new(self.alloc),
+            count: 0,
+        };
+        let mut line = Vec::new(self.alloc);
+        for _ in 0..u64::MAX {
+            let came = self.input.next(&mut line)?;
+            if came == Came::Ended || !self.talked.whole {
+                break;
+            }
+            match self.set_up_by(supply, &mut set_up, came, line.as_slice())? {
+                Heard::Answered => {}
+                Heard::Back => return Ok(Turn::Back),
+                Heard::Acts => return self.open(supply, set_up, came, line.as_slice()),
+            }
+        }
+        Ok(Turn::Ended)
+    }
+
+    /// Takes a line before the machine is there.
+    fn set_up_by<M: CoreSupply>(
+        &mut self,
+        supply: &mut M,
+        set_up: &mut SetUp,
+        came: Came,
+        line: &[u8],
+    ) -> Result<Heard, TraceFault> {
+        if came == Came::Read {
+            match asked_of(line) {
+                Some(Asked::Script) => {}
+                Some(Asked::Back) => return self.take_back(),
+                Some(Asked::Question(_) | Asked::Turn { .. }) => {
+                    self.answer(b"there is no machine yet: its first action opens it");
+                    return Ok(Heard::Answered);
+                }
+                None => return self.refuse_asking(),
+            }
+        }
+        if !self.is_good(supply, &mut set_up.checker, set_up.count, line)? {
+            return Ok(Heard::Answered);
+        }
+        set_up.count = set_up.count.saturating_add(1);
+        match said_by(self.alloc, supply, line)? {
+            Spoken::Acts => Ok(Heard::Acts),
+            said => self.set(supply, set_up, came, &said, line),
+        }
+    }
+
+    /// Takes a setting, or a line without words.
+    fn set<M: CoreSupply>(
+        &mut self,
+        supply: &mut M,
+        set_up: &mut SetUp,
+        came: Came,
+        said: &Spoken,
+        line: &[u8],
+    ) -> Result<Heard, TraceFault> {
+        if let Spoken::Sets(setting) = said {
+            if let Err(ConfigFault::NoMemory) = configure(supply, &mut set_up.config, setting) {
+                return Err(TraceFault::NoMemory);
+            }
+        }
+        if came == Came::Read {
+            self.input.keep(line)?;
+            self.answer(b"ok");
+        }
+        Ok(Heard::Answered)
+    }
+}
+
+impl<R: BufRead + Drop, S: Sink> Talk<'_, R, S> {
+    /// The line that was kept last is taken back.
+    pub(crate) fn take_back(&mut self) -> Result<Heard, TraceFault> {
+        let mut line = Vec::new(self.alloc);
+        if !self.input.take_back(&mut line)? {
+            self.answer(b"there is no line to take back");
+            return Ok(Heard::Answered);
+        }
+        if !(self.sink.put(line.as_slice()) && self.sink.put(b" is undone\n")) {
+            self.talked.whole = false;
+        }
+        Ok(Heard::Back)
+    }
+
+    /// A line that is no question and no turn, and begins like one.
+    pub(crate) fn refuse_asking(&mut self) -> Result<Heard, TraceFault> {
+        self.talked.bad = true;
+        self.answer(
+            b"bad line: ?, ? due, ? scsw S, ? unit U, ? wires S, turn S N and back are what can be asked",
+        );
+        Ok(Heard::Answered)
+    }
+
+    /// Whether a line is good after those that were kept; what is wrong with it is told.
+    pub(crate) fn is_good<M: CoreSupply>(
+        &mut self,
+        supply: &mut M,
+        checker: &mut Checker,
+        count: u64,
+        line: &[u8],
+    ) -> Result<bool, TraceFault> {
+        let number = count.saturating_add(1);
+        match checker.line(self.alloc, supply, number, line)? {
+            None => Ok(true),
+            Some(bad) => {
+                self.talked.bad = true;
+                if !(self.sink.put(b"bad line: ")
+                    && put_fault(self.sink, &bad)
+                    && self.sink.put(b"\n"))
+                {
+                    self.talked.whole = false;
+                }
+                Ok(false)
+            }
+        }
+    }
+}
+
+impl<R: BufRead + Drop, S: Sink> Talk<'_, R, S> {
+    /// Opens the machine that was set up, and talks with it.
+    fn open<M: CoreSupply>(
+        &mut self,
+        supply: &mut M,
+        set_up: SetUp,
+        came: Came,
+        line: &[u8],
+    ) -> Result<Turn, TraceFault> {
+        let SetUp {
+            checker,
+            config,
+            count,
+        } = set_up;
+        let parts = Parts::new_with(self.alloc, supply, &config)?;
+        let opened = Opened {
+            checker,
+            config,
+            parts,
+            count,
+        };
+        self.open_named::<Brand, M>(supply, opened, came, line)
+    }
+
+    /// Talks with a machine of this name.
+    fn open_named<J: MachineBrand, M: CoreSupply>(
+        &mut self,
+        supply: &mut M,
+        opened: Opened,
+        came: Came,
+        line: &[u8],
+    ) -> Result<Turn, TraceFault>
+        requires named { opened.parts.name ≡ J.name }
+        requires set_up { J.setup ≡ opened.config }
+        requires directory { opened.parts.name.directory ≡ directory_of (opening_of opened.config) }
+        requires serials { opened.parts.serials ≡ all_serials (opening_of opened.config) }
+    {
+        let Opened {
+            checker,
+            config,
+            parts,
+            count,
+        } = opened;
+        let tracer = Tracer::<J>::new(self.alloc, supply, config, parts)?;
+        let mut partner = Partner {
+            checker,
+            count,
+            stepping: Stepping::new(self.alloc, tracer),
+        };
+        self.talk_with(supply, &mut partner, came, line)
+    }
+}
+
+/// A machine that is to be opened, and what was said so far.
+#[derive(Drop)]
+struct Opened {
+    checker: Checker,
+    config: Config,
+    parts: Parts,
+    count: u64,
+}

@@ -1,0 +1,6 @@
+use Rattle.std.proofs.Common.{refl}
+use Rattle.word_names.proofs.Growing.{row}
+use Rattle.word_names.proofs.orb.control_parts.Goals as goal
+
+pub returns : goal.returns
+returns c = row c.bits.ensures (row c.flag.ensures (row c.flag-2.ensures (row c.flag-3.ensures (row c.flag-4.ensures (row c.bits-2.ensures (row c.flag-5.ensures (row c.flag-6.ensures (row c.flag-7.ensures (row c.flag-8.ensures (row c.flag-9.ensures (row c.flag-10.ensures (row c.flag-11.ensures (row c.bits-3.ensures (row c.flag-12.ensures (row c.flag-13.ensures (row c.bits-4.ensures (row c.flag-14.ensures refl)))))))))))))))))
