@@ -3,7 +3,7 @@
 #![tactic(auto)]
 
 pub mod fields;
-pub mod hold;
+pub mod hold_text;
 pub mod names;
 pub mod number;
 pub mod records;
@@ -13,7 +13,7 @@ mod signal_fields;
 pub mod told;
 mod unit_rows;
 
-pub use crate::hold::{put_hold, put_hold_short};
+pub use crate::hold_text::{put_hold, put_hold_short};
 pub use crate::names::put_subchannel_name;
 pub use crate::records::put_records;
 pub use crate::signal::put_signal;

@@ -3,7 +3,7 @@
 ghost use Rattle.std.specs.Prelude.{◌≤◌};
 
 use crate::fields::put_named;
-use crate::hold::put_hold_fields;
+use crate::hold_text::put_hold_fields;
 use crate::names::{Object, put_object};
 use crate::number::{put_decimal, put_eight_digits, put_two_digits};
 use crate::put_signal_fields;

@@ -8,7 +8,7 @@ use chan_model::hold_state::HoldState;
 use channel_config::parts::UnitKind;
 use orb_block::Orb;
 use record_text::fields::{put_between, put_named};
-use record_text::hold::put_hold;
+use record_text::hold_text::put_hold;
 use record_text::names::{kind_of, put_subchannel};
 use record_text::rows::{ccw_flags, direction_name, orb_words};
 use record_text::signal::put_signal;

@@ -10,7 +10,7 @@ mod names;
 mod steps;
 mod subchannel_text;
 mod unit_text;
-mod wires;
+mod wire_columns;
 
 use crate::head::put_head;
 use crate::layout::Layout;

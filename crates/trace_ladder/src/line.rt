@@ -6,7 +6,7 @@ use crate::layout::{CODE, Layout, SCRIPT, SUBCHANNELS};
 use crate::steps::first_word;
 use crate::subchannel_text::put_subchannel_text;
 use crate::unit_text::put_unit_text;
-use crate::wires::put_wires;
+use crate::wire_columns::put_wires;
 use chan_events::reply::Reply;
 use chan_model::answer::ConditionCode;
 use record_text::number::put_decimal;

@@ -7,7 +7,7 @@ use page_layout::layout::Layout;
 use page_layout::rows::Row;
 use page_text::marks::{Attribute, Tag};
 use page_text::page::Page;
-use record_text::hold::put_hold;
+use record_text::hold_text::put_hold;
 use record_text::told::put_owner;
 use step_records::record::{Fact, Place};
 use streams::Sink;

@@ -6,7 +6,7 @@ use chan_events::reply::Reply;
 use channel_config::parts::UnitKind;
 use memory::Supply;
 use page_text::page::Page;
-use record_text::hold::put_hold_short;
+use record_text::hold_text::put_hold_short;
 use record_text::names::{kind_of, unit_kind};
 use record_text::number::put_hexadecimal;
 use record_text::told::{

@@ -3,7 +3,7 @@ use Rattle.chan_model.specs.declared.hold_state.HoldPhase.{HoldPhase}
 use Rattle.chan_model.specs.declared.hold_state.HoldPhase.TheVariants.{Letting}
 use Rattle.script_text.proofs.Printing.{same_text}
 use Rattle.record_text.specs.Holds as spec
-use Rattle.record_text.proofs.hold.put_hold.Goals as goal
+use Rattle.record_text.proofs.hold_text.put_hold.Goals as goal
 
 pub returns-in-On : goal.returns-in-On
 returns-in-On g c = same_text _ _ _ _ _ (ap (λ (p : HoldPhase). spec.phase_text p c.args.hold.now.reset_path) (sym c.in-On.is)) c.put_on.ensures

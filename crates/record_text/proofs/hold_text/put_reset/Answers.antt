@@ -1,7 +1,7 @@
 use Rattle.std.proofs.Common.{ℕ, Some, ap, sym, ◌∙◌}
 use Rattle.script_text.proofs.Printing.{same_text}
 use Rattle.record_text.specs.Holds as spec
-use Rattle.record_text.proofs.hold.put_reset.Goals as goal
+use Rattle.record_text.proofs.hold_text.put_reset.Goals as goal
 
 pub returns-in-None : goal.returns-in-None
 returns-in-None g c = same_text _ _ _ _ _ (ap (spec.reset_text c.args.number) (sym c.in-None.is)) c.put_named.ensures
