@@ -5,7 +5,7 @@ mod outcome;
 mod views;
 
 use crate::outcome::Outcome;
-use crate::views::{show_script, show_words};
+use crate::views::{show_due, show_script, show_words, talk_on};
 use memory::Allocator;
 use std::env;
 use std::process::ExitCode;
@@ -49,6 +49,8 @@ fn serve(rt: &HostRuntime) -> Result<Outcome, Outcome> {
     let mut supply = Allocator { refused: false };
     match asked.view {
         View::Words => show_words(rt, &mut supply),
+        View::Talk => talk_on(rt, &mut supply),
+        View::Due { most } => show_due(rt, &mut supply, most),
         _ => show_script(rt, &mut supply, &asked),
     }
 }

@@ -14,6 +14,8 @@ use trace_ladder::put_ladder;
 use trace_page::put_page;
 use trace_runs::trace_script;
 use trace_states::put_states;
+use trace_talk::talk::run_talk;
+use trace_talk::whole::put_whole;
 use trace_words::{Asked, View};
 use word_lines::{WordsEnd, put_words};
 
@@ -110,6 +112,25 @@ fn put_view<S: Sink>(
             Ok(whole) => whole,
             Err(_) => return Err(Outcome::NoMemory),
         },
-        View::Words | View::Check => true,
+        View::Words | View::Check | View::Talk | View::Due { .. } => true,
     })
+}
+
+/// Performs each line as it is read, and answers it, with nothing held back.
+pub fn talk_on(rt: &HostRuntime, supply: &mut Allocator) -> Result<Outcome, Outcome> {
+    let mut sink = CheckedWriter::new(io::writer(rt));
+    let talked = run_talk(rt.alloc(), supply, rt.reader(), &mut sink)?;
+    match written(&mut sink, talked.whole, talked.refused) {
+        Outcome::Done { .. } if talked.bad => Ok(Outcome::Bad),
+        ended => Ok(ended),
+    }
+}
+
+/// Shows a script with the lines that are due after it, so many at most.
+pub fn show_due(rt: &HostRuntime, supply: &mut Allocator, most: u64) -> Result<Outcome, Outcome> {
+    let text = read_input(rt, supply)?;
+    check(rt, supply, text.as_slice(), View::Due { most })?;
+    let mut sink = CheckedWriter::new(buffered(rt)?);
+    let put = put_whole(rt.alloc(), supply, text.as_slice(), most, &mut sink)?;
+    Ok(written(&mut sink, put.whole, put.refused))
 }

@@ -74,6 +74,9 @@ struct SetUp {
     count: u64,
 }
 
+/// What is answered to a question and to a turn before the machine is there.
+const NO_MACHINE: &[u8] = b"there is no machine yet: its first action opens it";
+
 /// Talks until no line comes any more: each line is answered by one line, and a question by its lines and an empty one.
 pub fn run_talk<M: CoreSupply, R: BufRead + Drop, S: Sink>(
     alloc: Global,
@@ -141,8 +144,13 @@ impl<R: BufRead + Drop, S: Sink> Talk<'_, R, S> {
             match asked_of(line) {
                 Some(Asked::Script) => {}
                 Some(Asked::Back) => return self.take_back(),
-                Some(Asked::Question(_) | Asked::Turn { .. }) => {
-                    self.answer(b"there is no machine yet: its first action opens it");
+                Some(Asked::Question(_)) => {
+                    self.answer(NO_MACHINE);
+                    self.answer(b"");
+                    return Ok(Heard::Answered);
+                }
+                Some(Asked::Turn { .. }) => {
+                    self.answer(NO_MACHINE);
                     return Ok(Heard::Answered);
                 }
                 None => return self.refuse_asking(),

@@ -51,6 +51,22 @@ fn plain<'a>(alloc: Global, name: &'a str, about: &'a str, example: &'a str) -> 
     Command::new(alloc, name).about(about).after_help(example)
 }
 
+/// The command that takes how many lines are wanted at most.
+fn due<'a>(alloc: Global) -> Result<Command<'a>, AllocError> {
+    let most = Arg::new(alloc, "most")
+        .value_name("N")
+        .required(true)
+        .value_parser(value_parser!(u64))
+        .help("At most so many lines");
+    plain(
+        alloc,
+        "due",
+        "The script, and after it the lines that are due until nothing is",
+        "Example: chtrace due 100 < examples/lesson-1-one-write.chs | chsim run",
+    )
+    .arg(most)
+}
+
 /// The views of a script that was performed.
 fn with_views<'a>(alloc: Global, command: Command<'a>) -> Result<Command<'a>, AllocError> {
     command
@@ -111,5 +127,12 @@ pub(crate) fn the_command<'a>(alloc: Global) -> Result<Command<'a>, AllocError> 
             "check",
             "Each bad line of a script, with the word and the reason",
             "Example: chtrace check < examples/bad-line.chs",
-        ))
+        ))?
+        .subcommand(plain(
+            alloc,
+            "talk",
+            "Performs each line as it is read, and answers it",
+            "Example: (cat examples/lesson-3-poll.chs; echo '?') | chtrace talk",
+        ))?
+        .subcommand(due(alloc)?)
 }

@@ -22,6 +22,11 @@ pub enum View {
     Records,
     Words,
     Check,
+    Talk,
+    /// The lines that are due after the script, so many at most.
+    Due {
+        most: u64,
+    },
 }
 
 /// What the words ask for.
@@ -82,14 +87,14 @@ fn asked_by<'a>(
         return Err(Refused::Told(command.render_help()?));
     };
     Ok(Asked {
-        view: view_named(name),
+        view: view_named(name, options),
         selection: selection_of(alloc, options)?,
         style: style_of(options),
     })
 }
 
 /// The view of a name that `clap` has taken.
-fn view_named(name: &str) -> View {
+fn view_named(name: &str, options: &ArgMatches<'_>) -> View {
     match name {
         "explain" => View::Explain,
         "ladder" => View::Ladder,
@@ -98,6 +103,10 @@ fn view_named(name: &str) -> View {
         "page" => View::Page,
         "records" => View::Records,
         "words" => View::Words,
+        "talk" => View::Talk,
+        "due" => View::Due {
+            most: options.get_one::<u64>("most").unwrap_or(0),
+        },
         _ => View::Check,
     }
 }
