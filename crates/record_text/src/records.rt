@@ -45,6 +45,7 @@ fn put_record<S: Sink>(sink: &mut S, trace: &Trace, record: &Record) -> bool {
                 && sink.put(b"\n")
         }
         Fact::Answer(outcome) => put_answer(sink, record.line, line, outcome),
+        Fact::Found { .. } => true,
         fact => {
             let place = Place {
                 parties: &trace.parties,

@@ -1,4 +1,5 @@
 pub mod Balance
+pub mod Finding
 pub mod Holds
 pub mod Moves
 pub mod Named

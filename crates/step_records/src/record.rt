@@ -23,6 +23,12 @@ pub struct Record {
 pub enum Fact {
     /// The line itself, which stands in the text of the script.
     Event,
+    /// What the instruction of the line found of its subchannel: word 0 of its subchannel-status word, and its enabled bit.
+    Found {
+        subchannel: usize,
+        control: u32,
+        enabled: bool,
+    },
     /// What the line came to: what `chsim` prints after the number of the line is a function of it.
     Answer(Result<ActionResult, Fault>),
     /// A channel path of this identifier came up or went down.

@@ -2,9 +2,10 @@
 
 ghost use Rattle.std.specs.Prelude.{◌≡◌, [], IfNone, IfSome, None, Some, slice_get, slice_index_or};
 ghost use Rattle.step_records.specs.Balance as spec;
+ghost use Rattle.step_records.specs.Finding as found_spec;
 ghost use Rattle.step_records.specs.Moves as moves;
 
-use crate::record::{Signal, Way, Wire};
+use crate::record::{Fact, Signal, Way, Wire};
 use chan_model::names::Path;
 use chan_model::unit_state::UnitState;
 use functions::state::PackedState;
@@ -90,6 +91,18 @@ impl Sight {
             Some(sub) => sub.signals(wire.path, wire.way),
             None => &[],
         }
+    }
+
+    /// What an instruction finds of the subchannel of this index, in the order of the parties; None where there is none.
+    pub fn found(&self, subchannel: usize) -> Option<Fact>
+        ensures { result ≡ found_spec.found_of self.now subchannel }
+    {
+        let seen = self.subchannels.as_slice().get(subchannel)?;
+        Some(Fact::Found {
+            subchannel,
+            control: seen.state.scsw_words()[0],
+            enabled: seen.state.is_enabled(),
+        })
     }
 
     /// Whether the path of a subchannel is not down.

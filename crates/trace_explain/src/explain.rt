@@ -1,12 +1,14 @@
 //! The view `explain`: each line with what it came to, what it took and sent, and what changed.
 
 use crate::answer::put_answer;
+use crate::codes::found_by;
 use crate::facts::put_fact;
 use record_text::number::put_decimal;
 use step_records::record::{Fact, Record};
 use step_records::style::{Drawing, Style};
 use step_records::trace::Trace;
 use streams::Sink;
+use word_names::Found;
 
 /// Every line that acts, with what it came to, what it took and sent, and what changed; every word is decoded by the names of the
 /// manual (SA22-7832). The numbers of lines are decimal, all others hexadecimal.
@@ -25,18 +27,22 @@ fn put_all_explained<S: Sink>(
     records: &[Record],
     drawing: Drawing,
 ) -> bool {
+    let mut found = None;
     for record in records {
-        if !put_record_explained(sink, trace, record, drawing) {
+        if !put_record_explained(sink, trace, record, found, drawing) {
             return false;
         }
+        found = found_by(&trace.parties, &record.fact);
     }
     true
 }
 
+/// One record, where the one before it told that this was found.
 fn put_record_explained<S: Sink>(
     sink: &mut S,
     trace: &Trace,
     record: &Record,
+    found: Option<Found>,
     drawing: Drawing,
 ) -> bool {
     let line = trace.text.line(record.line);
@@ -44,7 +50,8 @@ fn put_record_explained<S: Sink>(
         Fact::Event => {
             put_decimal(sink, record.line) && sink.put(b" ") && sink.put(line) && sink.put(b"\n")
         }
-        Fact::Answer(outcome) => put_answer(sink, line, outcome),
+        Fact::Found { .. } => true,
+        Fact::Answer(outcome) => put_answer(sink, line, found, outcome),
         fact => put_fact(sink, &trace.parties, drawing, fact),
     }
 }

@@ -4,15 +4,18 @@
 
 mod answer;
 mod bit;
+pub mod codes;
 pub mod driver;
 pub mod explain;
 mod facts;
 pub mod instruction;
+mod operand;
 mod scsw;
 mod seen_answer;
 mod seen_words;
 mod unit_facts;
 pub mod visible;
 
+pub use crate::codes::{found_by, put_code_note};
 pub use crate::driver::put_driver;
 pub use crate::explain::{put_explained, put_line_explained};

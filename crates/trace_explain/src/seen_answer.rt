@@ -23,7 +23,7 @@ use scsw_irb::scsw::Scsw;
 use streams::{Sink, put_both};
 
 /// A condition code.
-fn put_code<S: Sink>(sink: &mut S, code: ConditionCode) -> bool
+pub(crate) fn put_code<S: Sink>(sink: &mut S, code: ConditionCode) -> bool
     ensures { Puts (S.seen sink.old) (code_text code) (S.seen sink.new) result }
 {
     match code {

@@ -74,6 +74,7 @@ fn subchannel_texts(fact: &Fact) -> usize {
         | Fact::StatusCleared { .. }
         | Fact::Request { .. } => 1,
         Fact::Event
+        | Fact::Found { .. }
         | Fact::Mask { .. }
         | Fact::Functions { .. }
         | Fact::Orb { .. }

@@ -1,5 +1,5 @@
 -- One more line performed and answered.
-use Rattle.std.proofs.Common.{◌≡◌, ◌∙◌, ◌+◌, ℕ, refl, sym, ap, subst, suc, arith, List, [], ◌∷◌, ◌++◌, length, map, take}
+use Rattle.std.proofs.Common.{◌≡◌, ◌∙◌, ◌+◌, ℕ, refl, sym, ap, subst, suc, arith, List, [], ◌∷◌, ◌++◌, append-nil, append_assoc, length, map, take}
 use Rattle.std.specs.Prelude.{slice_get, Some, false}
 use Rattle.std.specs.List.{filter_map, flat_map}
 use Rattle.std.proofs.lemmas.List.Elements.{filter_map-append}
@@ -14,7 +14,8 @@ use Rattle.script_runner.specs.Performing.{output_of}
 use Rattle.script_text.specs.Text.{event_line}
 use Rattle.step_records.specs.Told.{AnsweredLine, answered_by, answers_of}
 use Rattle.step_records.specs.declared.record.Record.{Record}
-use Rattle.trace_runs.specs.Tracing.{HasPerformedAt, HasStepped, HasTraced, IsTraced, Traced, answered, answered_line, printed}
+use Rattle.step_records.specs.declared.parties.Parties.{Parties}
+use Rattle.trace_runs.specs.Tracing.{AreOf, AreTold, HasPerformedAt, HasStepped, HasTraced, IsToldOf, IsTraced, Traced, answered, answered_line, printed}
 
 answers-append : (one two : List Record) → answers_of (one ++ two) ≡ answers_of one ++ answers_of two
 answers-append one two = filter_map-append (λ (r : Record). answered_by r.line r.fact) one two
@@ -28,26 +29,51 @@ answered-more (m ∷ ls) (p ∷ os) l o e =
     let shorter : length ls ≡ length os = omega arith in
     ap (λ (t : List AnsweredLine). answered_line m.number p ∷ t) (answered-more ls os l o shorter)
 
--- before the first line
-pub traced_none : (old : Installed) (records : List Record) → records ≡ [] → HasTraced old [] records old
-traced_none old records none = record { outcomes = []; runs = refl; answers = ap answers_of none }
+-- one line more is told behind the others
+told-then : (parties : Parties) (old middle new : Installed) (ls : List Line) (l : Line) (told facts all : List Record) →
+    AreTold parties old ls told middle → all ≡ told ++ facts → IsToldOf parties middle l.number l.action facts new →
+    AreTold parties old (ls ++ l ∷ []) all new
+told-then parties old middle new [] l told facts all are is one = (
+  new,
+  facts,
+  [],
+  is ∙ ap (λ (t : List Record). t ++ facts) are.0 ∙ sym (append-nil facts),
+  subst (λ (m : Installed). IsToldOf parties m l.number l.action facts new) are.1 one,
+  (refl, refl),
+)
+told-then parties old middle new (k ∷ ls) l told facts all are is one = (
+  are.0,
+  are.1,
+  are.2 ++ facts,
+  is ∙ ap (λ (t : List Record). t ++ facts) are.3 ∙ append_assoc are.1 are.2 facts,
+  are.4,
+  told-then parties are.0 middle new ls l are.2 facts (are.2 ++ facts) are.5 refl one,
+)
 
-traced-more : (old : Installed) (middle new : Traced) (ls : List Line) (l : Line) (before after : List Record) →
-    HasTraced old ls before middle.machine → HasStepped middle l.number l.action before after new → HasTraced old (ls ++ l ∷ []) after new.machine
-traced-more old middle new ls l before after h s = record {
-  outcomes = h.outcomes ++ s.outcome ∷ [];
-  runs = subst (λ (es : List Action). Runs old es (h.outcomes ++ s.outcome ∷ []) new.machine) (sym (actions-more ls l))
-      (runs-more old (map (λ k. k.action) ls) h.outcomes middle.machine l.action s.outcome new.machine h.runs s.acts);
+-- before the first line
+pub traced_none : (parties : Parties) (old : Installed) (records : List Record) → records ≡ [] → HasTraced parties old [] records old
+traced_none parties old records none = record { outcomes = []; runs = refl; answers = ap answers_of none; told = (none, refl) }
+
+traced-more : (parties : Parties) (old : Installed) (middle new : Traced) (ls : List Line) (l : Line) (before after : List Record) →
+    middle.parties ≡ parties → HasTraced parties old ls before middle.machine → HasStepped middle l.number l.action before after new →
+    HasTraced parties old (ls ++ l ∷ []) after new.machine
+traced-more parties old middle new ls l before after same h s = record {
+  outcomes = h.outcomes ++ s.told.outcome ∷ [];
+  runs = subst (λ (es : List Action). Runs old es (h.outcomes ++ s.told.outcome ∷ []) new.machine) (sym (actions-more ls l))
+      (runs-more old (map (λ k. k.action) ls) h.outcomes middle.machine l.action s.told.outcome new.machine h.runs s.told.acts);
   answers = ap answers_of s.added ∙ (answers-append before s.facts
-      ∙ (ap (λ (t : List AnsweredLine). t ++ answers_of s.facts) h.answers ∙ (ap (λ (t : List AnsweredLine). answered ls h.outcomes ++ t) s.answers
-      ∙ sym (answered-more ls h.outcomes l s.outcome (runs-length old ls h.outcomes middle.machine h.runs)))));
+      ∙ (ap (λ (t : List AnsweredLine). t ++ answers_of s.facts) h.answers ∙ (ap (λ (t : List AnsweredLine). answered ls h.outcomes ++ t) s.told.answers
+      ∙ sym (answered-more ls h.outcomes l s.told.outcome (runs-length old ls h.outcomes middle.machine h.runs)))));
+  told = told-then parties old middle.machine new.machine ls l before s.facts after h.told s.added
+      (subst (λ (p : Parties). IsToldOf p middle.machine l.number l.action s.facts new.machine) same s.told);
 }
 
-pub traced_to : (old : Installed) (middle new : Traced) (ls : List Line) (i : ℕ) (l : Line) (before after : List Record) →
-    slice_get ls i ≡ Some l → HasTraced old (take i ls) before middle.machine → HasStepped middle l.number l.action before after new →
-    HasTraced old (take (i + 1) ls) after new.machine
-traced_to old middle new ls i l before after there h s =
-    subst (λ (ks : List Line). HasTraced old ks after new.machine) (sym (grown ls i l there)) (traced-more old middle new (take i ls) l before after h s)
+pub traced_to : (parties : Parties) (old : Installed) (middle new : Traced) (ls : List Line) (i : ℕ) (l : Line) (before after : List Record) →
+    slice_get ls i ≡ Some l → middle.parties ≡ parties → HasTraced parties old (take i ls) before middle.machine →
+    HasStepped middle l.number l.action before after new → HasTraced parties old (take (i + 1) ls) after new.machine
+traced_to parties old middle new ls i l before after there same h s =
+    subst (λ (ks : List Line). HasTraced parties old ks after new.machine) (sym (grown ls i l there))
+    (traced-more parties old middle new (take i ls) l before after same h s)
 
 -- what the answers print is what `chsim run` prints
 pub printed-output : (ls : List Line) (os : List ActionOutcome) → printed (answered ls os) ≡ output_of ls os
@@ -67,4 +93,7 @@ is_traced text records s setup lines is same alike h = record {
   runs = subst (λ (ls : List Line). Runs h.opening (map (λ (l : Line). l.action) ls) h.traced.outcomes h.last) alike h.traced.runs;
   prints = ap printed h.traced.answers ∙ (printed-output lines h.traced.outcomes ∙ ap (λ (ls : List Line). output_of ls h.traced.outcomes) alike);
   audited = h.audited;
+  parties = h.parties;
+  is_among = subst (λ (c : Setup). AreOf c h.parties) same h.is_among;
+  told = subst (λ (ls : List Line). AreTold h.parties h.opening ls records h.last) alike h.traced.told;
 }

@@ -1,18 +1,33 @@
 -- What was told of one action.
-use Rattle.std.proofs.Common.{◌≡◌, ◌∙◌, ◌<◌, ℕ, refl, sym, ap, subst, List, [], ◌∷◌, ◌++◌, append-nil, cond, length}
+use Rattle.std.proofs.Common.{◌≡◌, ◌∙◌, ◌<◌, ◌+◌, ◌-◌, ◌×◌, ⊥, ℕ, Bool, true, false, refl, sym, ap, subst, arith, List, [], ◌∷◌, ◌++◌, append-nil, cond, length}
+use Rattle.std.proofs.lemmas.List.{length-append}
+use Rattle.std.specs.Prelude.{Result, Ok, Err, Some, slice_get}
+use Rattle.chan_events.specs.Events.{Event}
+use Rattle.chan_events.specs.Replies.{Reply}
+use Rattle.chan_events.specs.declared.reply.Entry.{Entry}
+use Rattle.chan_model.specs.Reports.{Report}
+use Rattle.chan_model.specs.declared.fault.Fault.{Fault}
+use Rattle.chan_model.specs.declared.fault.Fault.TheVariants as fault
+use Rattle.machine_model.specs.State.{Past}
+use Rattle.machine_sight.specs.Shown.{Shows}
 use Rattle.script_rows.specs.declared.Action.{Action}
-use Rattle.script_runner.specs.Acting.{ActionOutcome, Installed, PerformsAction}
+use Rattle.script_rows.specs.declared.Action.TheVariants as action
+use Rattle.script_runner.specs.Acting.{ActionOutcome, Enters, Follows, Installed, PerformsAction, device_turn_of}
+use Rattle.script_text.specs.Text.{told_of as outcome_told}
+use Rattle.script_text.specs.declared.ActionResult.{ActionResult}
+use Rattle.script_text.specs.declared.ActionResult.TheVariants as outcome
 use Rattle.step_records.specs.Balance.{IsBalanced, signal_of, signals_on, waits_on}
 use Rattle.step_records.specs.Told.{AnsweredLine, Told, answers_of, facts_where, is_move, told_of}
 use Rattle.step_records.specs.declared.balance.Course.{Course}
 use Rattle.step_records.specs.declared.balance.Course.TheVariants.{Onto, Met, Gone}
+use Rattle.step_records.specs.declared.parties.Parties.{Parties}
 use Rattle.step_records.specs.declared.record.Fact.{Fact}
 use Rattle.step_records.specs.declared.record.Fact.TheVariants as fact
 use Rattle.step_records.specs.declared.record.Record.{Record}
 use Rattle.step_records.specs.declared.record.Signal.{Signal}
 use Rattle.step_records.specs.declared.record.Wire.{Wire}
 use Rattle.step_records.specs.declared.sight.Sight.{Sight}
-use Rattle.trace_runs.specs.Tracing.{HasStepped, HasTold, Traced, answered_line}
+use Rattle.trace_runs.specs.Tracing.{AreHeldBy, HasStepped, HasTold, IsLast, IsMovedBy, IsSeen, Traced, answered_line}
 
 -- where no signal moved there is none of any course
 one_quiet : (course : Course) (on : Wire) (f : Fact) (rs : List Record) → (facts_where is_move rs ≡ [] → signals_on course on rs ≡ []) →
@@ -32,30 +47,108 @@ balanced_quiet sight facts e = λ on within small.
     ∙ sym (ap (λ (t : List Signal). t ++ (signals_on Gone on facts ++ waits)) (no_signals Met on facts e)
     ∙ ap (λ (t : List Signal). t ++ waits) (no_signals Gone on facts e)))
 
+-- a refusal, or a look
+abbrev pub is_quiet : ActionOutcome → Bool
+is_quiet (Ok (outcome.Reply r)) = false
+is_quiet other = true
+
+-- nothing but the room changes
+IsStill : Past → Past → Type 0
+IsStill old new = (new.state ≡ old.state) × (new.history ≡ old.history)
+
+entered_quiet : (old : Past) (e : Event) (came : Result Reply Fault) (new : Past) → is_quiet (outcome_told came) ≡ true → Enters old e came new → IsStill old new
+entered_quiet old e (Ok r) new q h = absurd (cc q)
+entered_quiet old e (Err fault.NoMemory) new q h = (h.0.state, h.0.history)
+entered_quiet old e (Err f) new q h = (h.2.state, h.2.history)
+
+follows_quiet : (old : Installed) (index : ℕ) (report : Result Report Fault) (came : Result Reply Fault) (new : Installed) →
+    is_quiet (outcome_told came) ≡ true → Follows old index report came new → IsStill old.past new.past
+follows_quiet old index (Ok report) came new q h = entered_quiet old.past _ came new.past q h.0
+follows_quiet old index (Err f) came new q h = (ap (λ (i : Installed). i.past.state) h.1, ap (λ (i : Installed). i.past.history) h.1)
+
+pub quiet_past : (old new : Installed) (a : Action) (r : ActionOutcome) → is_quiet r ≡ true → PerformsAction old a r new → IsStill old.past new.past
+quiet_past old new (action.Event e) r q p = entered_quiet old.past e p.0 new.past (subst (λ (o : ActionOutcome). is_quiet o ≡ true) p.1 q) p.2.0
+quiet_past old new (action.Dev index) r q p =
+    follows_quiet (record old { devices = (device_turn_of old index).devices }) index (device_turn_of old index).report p.0 new
+    (subst (λ (o : ActionOutcome). is_quiet o ≡ true) p.1 q) p.2
+quiet_past old new (action.Glance word) r q p = (ap (λ (i : Installed). i.past.state) p.2, ap (λ (i : Installed). i.past.history) p.2)
+
+-- no history is longer than itself
+not_longer : (old new : List Entry) (e : Entry) → new ≡ old → new ≡ old ++ e ∷ [] → ⊥
+not_longer old new e same grown =
+    let long : length (old ++ e ∷ []) ≡ length old + 1 = length-append old (e ∷ []) in
+    let one : length new ≡ length old = ap (λ (h : List Entry). length h) same in
+    let two : length new ≡ length (old ++ e ∷ []) = ap (λ (h : List Entry). length h) grown in
+    omega (arith, long, one, two)
+
+-- what was added is last
+at_end : (h : List Entry) (e : Entry) → slice_get (h ++ e ∷ []) (length h) ≡ Some e
+at_end [] e = refl
+at_end (x ∷ h) e = at_end h e
+
+last_grown : (old new : List Entry) (e : Entry) → new ≡ old ++ e ∷ [] → IsLast new e
+last_grown old new e grown =
+    let long : length (old ++ e ∷ []) ≡ length old + 1 = length-append old (e ∷ []) in
+    let less : length (old ++ e ∷ []) - 1 ≡ length old = omega (arith, long) in
+    subst (λ (h : List Entry). IsLast h e) (sym grown) (ap (λ n. slice_get (old ++ e ∷ []) n) less ∙ at_end old e)
+
 -- an action of which only what it came to is told
 pub stepped_quiet : (old new : Traced) (line : ℕ) (action : Action) (outcome : ActionOutcome) (facts before after : List Record) (told : Told) →
-    PerformsAction old.machine action outcome new.machine → new.sight ≡ old.sight →
+    PerformsAction old.machine action outcome new.machine → is_quiet outcome ≡ true → new.parties ≡ old.parties → new.sight ≡ old.sight →
     told ≡ record { line = line; answers = answered_line line outcome ∷ []; moves = []; holds = [] } → told_of told.line facts ≡ told →
-    after ≡ before ++ facts → HasStepped old line action before after new
-stepped_quiet old new line action outcome facts before after told acts same is was added = record {
-  outcome = outcome;
-  acts = acts;
-  facts = facts;
-  added = added;
-  answers = ap (λ (t : Told). t.answers) was ∙ ap (λ (t : Told). t.answers) is;
-  balanced = subst (λ (s : Sight). IsBalanced old.sight facts s) (sym same)
-      (balanced_quiet old.sight facts (ap (λ (t : Told). t.moves) was ∙ ap (λ (t : Told). t.moves) is));
-}
+    after ≡ before ++ facts → IsSeen old → HasStepped old line action before after new
+stepped_quiet old new line action outcome facts before after told acts quiet stay same is was added seen =
+    let still = quiet_past old.machine new.machine action outcome quiet acts in
+    let shown = subst (λ s. Shows s old.parties old.sight) (sym still.0) seen in
+    record {
+      facts = facts;
+      added = added;
+      told = record {
+        outcome = outcome;
+        acts = acts;
+        answers = ap (λ (t : Told). t.answers) was ∙ ap (λ (t : Told). t.answers) is;
+        before = old.sight;
+        after = old.sight;
+        shown_before = seen;
+        shown_after = shown;
+        balanced = balanced_quiet old.sight facts (ap (λ (t : Told). t.moves) was ∙ ap (λ (t : Told). t.moves) is);
+        moves = λ entry grown. absurd (not_longer old.machine.past.history new.machine.past.history entry still.1 grown);
+        holds = λ entry grown. absurd (not_longer old.machine.past.history new.machine.past.history entry still.1 grown);
+      };
+      parties_stay = stay;
+      seen = subst (λ (s : Sight). Shows new.machine.past.state new.parties s) (sym same)
+          (subst (λ (p : Parties). Shows new.machine.past.state p old.sight) (sym stay) shown);
+    }
 
 -- an event of which the facts are told behind what it came to
-pub stepped_told : (old middle new : Traced) (line : ℕ) (action : Action) (outcome : ActionOutcome) (answers : List AnsweredLine) (before after : List Record) →
-    PerformsAction old.machine action outcome middle.machine → middle.sight ≡ old.sight → answers ≡ answered_line line outcome ∷ [] →
-    HasTold middle answers before after new → HasStepped old line action before after new
-stepped_told old middle new line action outcome answers before after acts same is h = record {
-  outcome = outcome;
-  acts = subst (λ (m : Installed). PerformsAction old.machine action outcome m) (sym h.machine_stays) acts;
-  facts = h.facts;
-  added = h.added;
-  answers = h.answers_are ∙ is;
-  balanced = subst (λ (s : Sight). IsBalanced s h.facts new.sight) same h.balanced;
-}
+pub stepped_told : (old middle new : Traced) (line : ℕ) (action : Action) (outcome : ActionOutcome) (told : Told) (before after : List Record) →
+    PerformsAction old.machine action outcome middle.machine → middle.parties ≡ old.parties → middle.sight ≡ old.sight →
+    told ≡ record { line = line; answers = answered_line line outcome ∷ []; moves = []; holds = [] } →
+    HasTold middle told before after new → IsSeen old → HasStepped old line action before after new
+stepped_told old middle new line action outcome told before after acts alike same is h seen =
+    let first : Told = record { line = line; answers = answered_line line outcome ∷ []; moves = []; holds = [] } in
+    let k : HasTold middle first before after new = subst (λ (t : Told). HasTold middle t before after new) is h in
+    let stay : new.parties ≡ old.parties = k.parties_stay ∙ alike in
+    let shown = subst (λ (p : Parties). Shows new.machine.past.state p new.sight) stay k.seen in
+    record {
+      facts = k.facts;
+      added = k.added;
+      told = record {
+        outcome = outcome;
+        acts = subst (λ (m : Installed). PerformsAction old.machine action outcome m) (sym k.machine_stays) acts;
+        answers = k.answers_are;
+        before = old.sight;
+        after = new.sight;
+        shown_before = seen;
+        shown_after = shown;
+        balanced = subst (λ (s : Sight). IsBalanced s k.facts new.sight) same k.balanced;
+        moves = λ entry grown.
+            subst (λ (p : Parties). IsMovedBy p old.sight entry first k.facts) alike
+            (subst (λ (s : Sight). IsMovedBy middle.parties s entry first k.facts) same
+            (k.moves entry (last_grown old.machine.past.history middle.machine.past.history entry
+                (ap (λ (m : Installed). m.past.history) (sym k.machine_stays) ∙ grown))));
+        holds = λ entry grown. subst (λ (s : Sight). AreHeldBy s new.sight first k.facts) same k.holds;
+      };
+      parties_stay = stay;
+      seen = k.seen;
+    }

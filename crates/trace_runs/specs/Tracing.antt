@@ -1,7 +1,9 @@
 -- What the records of a script tell of its lines.
-use Rattle.std.specs.Prelude.{◌≡◌, ℕ, false, List, [], ◌∷◌, ◌++◌, map}
+use Rattle.std.specs.Prelude.{◌≡◌, ◌-◌, ◌×◌, ℕ, true, false, List, [], ◌∷◌, ◌++◌, length, map, slice_get, Some}
 use Rattle.std.specs.List.{flat_map}
+use Rattle.chan_events.specs.declared.reply.Entry.{Entry}
 use Rattle.channel_config.specs.Setup.{Setup}
+use Rattle.machine_sight.specs.Shown.{Shows}
 use Rattle.script.specs.Pieces.{lines_of}
 use Rattle.script.specs.Scripts.{IsScript, ScriptContents}
 use Rattle.script.specs.declared.Line.{Line}
@@ -10,14 +12,23 @@ use Rattle.script_runner.specs.Acting.{ActionOutcome, Installed, IsAudited, IsOp
 use Rattle.script_runner.specs.Performing.{output_of}
 use Rattle.script_text.specs.Text.{event_line}
 use Rattle.step_records.specs.Balance.{IsBalanced}
-use Rattle.step_records.specs.Told.{AnsweredLine, answers_of}
+use Rattle.step_records.specs.Holds.{all_hold_changes}
+use Rattle.step_records.specs.Moves.{is_told_by_reply, met_of, sent_of}
+use Rattle.step_records.specs.Named.{named_by}
+use Rattle.step_records.specs.Told.{AnsweredLine, Told, answers_of, facts_where, is_hold, is_move, nothing_told}
+use Rattle.step_records.specs.declared.parties.Parties.{Parties}
 use Rattle.step_records.specs.declared.record.Record.{Record}
 use Rattle.step_records.specs.declared.sight.Sight.{Sight}
 
--- a machine, and what a look showed of it last
+-- a machine, who there is, and what a look showed of it last
 pub record Traced : Type 0 where
   pub machine : Installed
+  pub parties : Parties
   pub sight : Sight
+
+-- the last look shows the machine as it is
+abbrev pub IsSeen : Traced → Type 0
+IsSeen traced = Shows traced.machine.past.state traced.parties traced.sight
 
 -- a line, and what it came to
 abbrev pub answered_line : ℕ → ActionOutcome → AnsweredLine
@@ -29,35 +40,78 @@ answered [] rs = []
 answered (l ∷ ls) [] = []
 answered (l ∷ ls) (r ∷ rs) = answered_line l.number r ∷ answered ls rs
 
--- facts were told of a machine that stays: they answer what they did, and account for all that moved on the wires
-pub record HasTold (old : Traced) (answers : List AnsweredLine) (before after : List Record) (new : Traced) : Type 0 where
+-- the last entry of a history
+abbrev pub IsLast : List Entry → Entry → Type 0
+IsLast entries entry = slice_get entries (length entries - 1) ≡ Some entry
+
+-- behind the signals that were told already, those are told that the reply of this entry says were met and sent
+abbrev pub IsMovedBy : Parties → Sight → Entry → Told → List Record → Type 0
+IsMovedBy parties before entry told facts = (sub : ℕ) → named_by parties entry.event ≡ Some sub → is_told_by_reply entry.event ≡ true →
+    facts_where is_move facts ≡ told.moves ++ (met_of sub entry.event entry.reply ++ sent_of before sub entry.reply)
+
+-- behind the holds that were told already, those are told that differ
+abbrev pub AreHeldBy : Sight → Sight → Told → List Record → Type 0
+AreHeldBy before after told facts = facts_where is_hold facts ≡ told.holds ++ all_hold_changes before.subchannels.items after.subchannels.items
+
+-- behind what was told, the facts of the last event were told of a machine that stays
+pub record HasTold (old : Traced) (told : Told) (before after : List Record) (new : Traced) : Type 0 where
   pub facts : List Record
   pub added : after ≡ before ++ facts
-  pub answers_are : answers_of facts ≡ answers
+  pub answers_are : answers_of facts ≡ told.answers
+  pub moves : (entry : Entry) → IsLast old.machine.past.history entry → IsMovedBy old.parties old.sight entry told facts
+  pub holds : AreHeldBy old.sight new.sight told facts
   pub balanced : IsBalanced old.sight facts new.sight
   pub machine_stays : new.machine ≡ old.machine
+  pub parties_stay : new.parties ≡ old.parties
+  pub seen : IsSeen new
 
--- one action was performed as `chsim run` does: the records have what it came to under its line, and those that were added account
--- for all that moved on the wires
-pub record HasStepped (old : Traced) (line : ℕ) (action : Action) (before after : List Record) (new : Traced) : Type 0 where
+-- the facts of a line: what its action came to, as `chsim run` performs it, and what differs between two looks, of which one shows the
+-- machine before it and the other after it. They account for all that moved on the wires; where an event was accepted, they tell the
+-- signals that its reply says were met and sent, and the holds that changed.
+pub record IsToldOf (parties : Parties) (old : Installed) (number : ℕ) (action : Action) (facts : List Record) (new : Installed) : Type 0 where
   pub outcome : ActionOutcome
-  pub acts : PerformsAction old.machine action outcome new.machine
+  pub acts : PerformsAction old action outcome new
+  pub answers : answers_of facts ≡ answered_line number outcome ∷ []
+  pub before : Sight
+  pub after : Sight
+  pub shown_before : Shows old.past.state parties before
+  pub shown_after : Shows new.past.state parties after
+  pub balanced : IsBalanced before facts after
+  pub moves : (entry : Entry) → new.past.history ≡ old.past.history ++ entry ∷ [] → IsMovedBy parties before entry (nothing_told number) facts
+  pub holds : (entry : Entry) → new.past.history ≡ old.past.history ++ entry ∷ [] → AreHeldBy before after (nothing_told number) facts
+
+-- one line was performed, and its facts are told behind those before; what was looked at last shows the machine then too
+pub record HasStepped (old : Traced) (line : ℕ) (action : Action) (before after : List Record) (new : Traced) : Type 0 where
   pub facts : List Record
   pub added : after ≡ before ++ facts
-  pub answers : answers_of facts ≡ answered_line line outcome ∷ []
-  pub balanced : IsBalanced old.sight facts new.sight
+  pub told : IsToldOf old.parties old.machine line action facts new.machine
+  pub parties_stay : new.parties ≡ old.parties
+  pub seen : IsSeen new
 
--- the actions of these lines were performed, and the records have what each came to
-pub record HasTraced (old : Installed) (lines : List Line) (records : List Record) (new : Installed) : Type 0 where
+-- the lines were performed in order, and the records are the facts of each
+abbrev pub AreTold : Parties → Installed → List Line → List Record → Installed → Type 0
+AreTold parties old [] records new = (records ≡ []) × (new ≡ old)
+AreTold parties old (l ∷ ls) records new =
+    (middle : Installed) × (facts : List Record) × (rest : List Record) × (records ≡ facts ++ rest)
+    × IsToldOf parties old l.number l.action facts middle × AreTold parties middle ls rest new
+
+-- the actions of these lines were performed, and the records have what each came to, and the facts of each
+pub record HasTraced (parties : Parties) (old : Installed) (lines : List Line) (records : List Record) (new : Installed) : Type 0 where
   pub outcomes : List ActionOutcome
   pub runs : Runs old (map (λ l. l.action) lines) outcomes new
   pub answers : answers_of records ≡ answered lines outcomes
+  pub told : AreTold parties old lines records new
 
 -- what answers print, a line each
 abbrev pub printed : List AnsweredLine → List ℕ
 printed answers = flat_map (λ (a : AnsweredLine). event_line a.line a.outcome) answers
 
--- the text is a script, which was performed from the opening of its set-up; and what the records answer prints as `chsim run` does
+-- the subchannels and the units of a set-up
+abbrev pub AreOf : Setup → Parties → Type 0
+AreOf setup parties = (parties.subchannels.items ≡ setup.subchannels) × (parties.units.items ≡ setup.units)
+
+-- the text is a script, which was performed from the opening of its set-up; what the records answer prints as `chsim run` does, and they
+-- are the facts of its lines
 pub record IsTraced (text : List ℕ) (records : List Record) : Type 0 where
   pub script : ScriptContents
   pub is_script : IsScript false (lines_of text) script
@@ -67,6 +121,9 @@ pub record IsTraced (text : List ℕ) (records : List Record) : Type 0 where
   pub outcomes : List ActionOutcome
   pub runs : Runs opening (map (λ l. l.action) script.lines) outcomes last
   pub prints : printed (answers_of records) ≡ output_of script.lines outcomes
+  pub parties : Parties
+  pub is_among : AreOf script.setup parties
+  pub told : AreTold parties opening script.lines records last
   pub audited : IsAudited last
 
 -- a machine of this set-up performed lines from its opening, and its books were audited
@@ -74,5 +131,7 @@ pub record HasPerformedAt (setup : Setup) (lines : List Line) (records : List Re
   pub opening : Installed
   pub is_opening : IsOpening setup opening
   pub last : Installed
-  pub traced : HasTraced opening lines records last
+  pub parties : Parties
+  pub is_among : AreOf setup parties
+  pub traced : HasTraced parties opening lines records last
   pub audited : IsAudited last

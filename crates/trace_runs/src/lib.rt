@@ -6,9 +6,8 @@ ghost use Rattle.machine_model.specs.State.{opening_of};
 ghost use Rattle.subsystem.specs.Keeping.{all_serials};
 ghost use Rattle.core_lock.specs.Directory.{directory_of};
 ghost use Rattle.script_runner.specs.Acting.{Installed, IsAudited, IsOpening};
-ghost use Rattle.trace_runs.specs.Tracing.{HasPerformedAt, HasTraced, IsTraced};
+ghost use Rattle.trace_runs.specs.Tracing.{HasPerformedAt, HasTraced, IsSeen, IsTraced};
 
-pub mod seeing;
 #[cfg(test)]
 mod tests;
 pub mod tracer;
@@ -74,7 +73,6 @@ struct Performed {
 }
 
 /// Performs the script that a text is, as `chsim run` does, and keeps the facts of each step. A script that ends in a race is bad.
-
 pub fn trace_script<M: CoreSupply>(
     alloc: Global,
     supply: &mut M,
@@ -126,8 +124,10 @@ fn perform<J: MachineBrand, M: Supply>(
     lines: &Lines,
     records: &mut Vec<Record>,
 ) -> Result<(), TraceFault>
-    requires { records.old.items ≡ [] }
-    ensures { OnOk result (HasTraced tracer.old.machine lines.now records.new.items tracer.new.machine) }
+    requires none { records.old.items ≡ [] }
+    requires seen { IsSeen tracer.old }
+    ensures traced { OnOk result (HasTraced tracer.old.parties tracer.old.machine lines.now records.new.items tracer.new.machine) }
+    ensures parties { OnOk result (tracer.new.parties ≡ tracer.old.parties) }
 {
     for index in 0..lines.len() {
         let Some(line) = lines.kept(index) else {

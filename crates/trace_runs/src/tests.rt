@@ -60,6 +60,7 @@ const LOST_PATH: &[u8] =
 fn letter_of(fact: &Fact) -> u8 {
     match fact {
         Fact::Event => b'e',
+        Fact::Found { .. } => b'q',
         Fact::Answer(_) => b'a',
         Fact::PathState { .. } => b'p',
         Fact::Signal { moved, .. } => match moved {

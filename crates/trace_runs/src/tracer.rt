@@ -10,10 +10,12 @@ ghost use Rattle.script_runner.specs.Acting.{IsAudited, IsOpening};
 ghost use Rattle.step_records.specs.Balance.{IsBalanced};
 ghost use Rattle.step_records.specs.Told as told_spec;
 ghost use Rattle.step_records.specs.Told.{answers_of};
-ghost use Rattle.trace_runs.specs.Tracing.{HasStepped, HasTold, answered_line};
+ghost use Rattle.chan_events.specs.declared.reply.Entry.{Entry};
+ghost use Rattle.trace_runs.specs.Tracing.{AreHeldBy, AreOf, HasStepped, HasTold, IsLast, IsMovedBy, IsSeen, answered_line};
 
 use crate::TraceFault;
-use crate::seeing::{SightFault, seen};
+use machine_sight::{SightFault, seen};
+use chan_events::event::Event;
 use chan_events::reply::{Entry, Reply};
 use chan_model::fault::Fault;
 use channel_config::config::Config;
@@ -66,7 +68,7 @@ impl<J: MachineBrand> Model for Tracer<J> {
 
     ghost Value = { Traced };
 
-    ghost view = { λ t. record { machine = t.machine; sight = t.sight } };
+    ghost view = { λ t. record { machine = t.machine; parties = t.parties; sight = t.sight } };
 }
 
 /// The outcome of an action, as it is told.
@@ -87,7 +89,9 @@ fn outcome_of<J: MachineBrand>(
 }
 
 /// The last entry of a history; None where there is none.
-fn last_entry(subsystem: &Subsystem<Rotating>) -> Option<Entry> {
+fn last_entry(subsystem: &Subsystem<Rotating>) -> Option<Entry>
+    ensures { IfSome result (λ entry. IsLast subsystem.now.history entry) }
+{
     let history = subsystem.history();
     match history.len() {
         0 => None,
@@ -111,17 +115,35 @@ fn fault_of_facts(fault: FactFault, line: u64) -> TraceFault {
     }
 }
 
-/// What a line came to, as the first facts of its step.
+/// What the instruction of an action finds of its subchannel; None where it names none that is there.
+fn found_by(sight: &Sight, parties: &Participants, action: &KeptAction) -> Option<Fact>
+    ensures { IfSome result (λ fact. told_spec.is_other fact ≡ true) }
+{
+    match action {
+        KeptAction::Event(Event::Execute { instruction, .. }) => {
+            let index = parties.subchannel_named(instruction.subchannel_word())?;
+            sight.found(index)
+        }
+        _ => None,
+    }
+}
+
+/// What a line found and what it came to, as the first facts of its step.
 fn first_facts<S: Supply>(
     alloc: Global,
     supply: &mut S,
     line: u64,
+    found: Option<Fact>,
     outcome: Result<ActionResult, Fault>,
 ) -> Result<StepFacts, AllocError>
+    requires { IfSome found (λ fact. told_spec.is_other fact ≡ true) }
     ensures { IfOk result (λ facts. facts ≡ record { line = line; answers = answered_line line outcome ∷ []; moves = []; holds = [] }) }
 {
     let mut facts = StepFacts::new(alloc, line);
     facts.push(supply, Fact::Event)?;
+    if let Some(found) = found {
+        facts.push(supply, found)?;
+    }
     facts.push_answer(supply, outcome)?;
     Ok(facts)
 }
@@ -152,7 +174,9 @@ impl<J: MachineBrand> Tracer<J> {
         requires set_up { J.setup ≡ config }
         requires directory { parts.name.directory ≡ directory_of (opening_of config) }
         requires serials { parts.serials ≡ all_serials (opening_of config) }
-        ensures { IfOk result (λ tracer. IsOpening config tracer.machine) }
+        ensures opening { IfOk result (λ tracer. IsOpening config tracer.machine) }
+        ensures parties { IfOk result (λ tracer. AreOf config tracer.parties) }
+        ensures seen { IfOk result (λ tracer. IsSeen tracer) }
     {
         let parties = Participants::of(alloc, supply, &config)?;
         let path_return = config.path_return();
@@ -181,7 +205,9 @@ impl<J: MachineBrand> Tracer<J> {
     }
 
     /// Who there is.
-    pub fn parties(&self) -> &Participants {
+    pub fn parties(&self) -> &Participants
+        ensures { result.now ≡ self.now.parties }
+    {
         &self.parties
     }
 
@@ -194,7 +220,8 @@ impl<J: MachineBrand> Tracer<J> {
 
     /// Who there is, and whether the audit found the books that the history has.
     pub fn finish(self) -> (Participants, bool)
-        ensures { IsTrue result.1 ↔ IsAudited self.machine }
+        ensures parties { result.0 ≡ self.parties }
+        ensures audited { IsTrue result.1 ↔ IsAudited self.machine }
     {
         let Tracer {
             alloc: _,
@@ -220,11 +247,12 @@ impl<J: MachineBrand> Tracer<J> {
         records: &mut Vec<Record>,
     ) -> Result<Stepped, TraceFault>
         requires { action_length action.now ≤ length bytes.now }
-        ensures { OnOk result (HasStepped self.old line (action_in action.now bytes.now) records.old.items records.new.items self.new) }
+        ensures { OnOk result (IsSeen self.old → HasStepped self.old line (action_in action.now bytes.now) records.old.items records.new.items self.new) }
     {
+        let found = found_by(&self.sight, &self.parties, action);
         let acted = self.machine.act(supply, action, bytes, &mut self.buffers);
         let outcome = outcome_of(&self.machine, &acted);
-        let facts = first_facts(self.alloc, supply, line, outcome)?;
+        let facts = first_facts(self.alloc, supply, line, found, outcome)?;
         match acted {
             Ok(Acted::Replied) => {
                 self.tell(supply, line, facts, records)?;
@@ -249,7 +277,7 @@ impl<J: MachineBrand> Tracer<J> {
         facts: StepFacts,
         records: &mut Vec<Record>,
     ) -> Result<(), TraceFault>
-        ensures { OnOk result (HasTold self.old facts.answers records.old.items records.new.items self.new) }
+        ensures { OnOk result (HasTold self.old facts records.old.items records.new.items self.new) }
     {
         let after = match seen(self.alloc, supply, self.machine.subsystem(), &self.parties) {
             Ok(after) => after,
@@ -274,6 +302,8 @@ impl<J: MachineBrand> Tracer<J> {
         after: &Sight,
     ) -> Result<Vec<Record>, TraceFault>
         ensures answers { IfOk result (λ list. answers_of list.items ≡ facts.answers) }
+        ensures moves { IfOk result (λ list. (entry : Entry) → IsLast self.old.machine.past.history entry → IsMovedBy self.old.parties self.old.sight entry facts list.items) }
+        ensures holds { IfOk result (λ list. AreHeldBy self.old.sight after.now facts list.items) }
         ensures kept { self.new ≡ self.old }
     {
         let Some(entry) = last_entry(self.machine.subsystem()) else {

@@ -119,7 +119,7 @@ impl Selection {
             return false;
         }
         match &record.fact {
-            Fact::Event | Fact::Answer(_) => {
+            Fact::Event | Fact::Found { .. } | Fact::Answer(_) => {
                 self.has_subject(parties, subject_of_line(text.line(record.line)))
             }
             Fact::PathState { chpid, .. } => self.has_path(parties, u32::from(*chpid)),

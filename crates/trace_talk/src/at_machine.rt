@@ -1,7 +1,6 @@
 //! The part of a talk at a machine that is opened.
 
 use crate::asking::{Asked, Question, asked_of};
-use crate::codes::{Executed, instruction_in, put_code_note};
 use crate::due::DueLine;
 use crate::input::Came;
 use crate::notes::put_notes;
@@ -18,10 +17,12 @@ use refusal_reasons::{Refused, put_refusal_reason};
 use script::readable::has_words;
 use script_rows::slots::ActionSlot;
 use script_text::held::Held;
-use script_text::put_outcome;
+use script_text::{ActionResult, put_outcome};
 use std::io::BufRead;
+use step_records::parties::Parties;
 use step_records::record::{Fact, Record};
 use streams::Sink;
+use trace_explain::{found_by, put_code_note};
 use trace_runs::TraceFault;
 use trace_runs::tracer::Stepped;
 
@@ -43,12 +44,14 @@ fn put_outcome_of<S: Sink>(sink: &mut S, records: &[Record]) -> bool {
     true
 }
 
-/// What the code of an instruction says, where the records tell of one.
-fn put_code_of<S: Sink>(sink: &mut S, asked: &Option<Executed>, records: &[Record]) -> bool {
+/// What the code of the instruction of a line says, where the records tell of one.
+fn put_code_of<S: Sink>(sink: &mut S, parties: &Parties, line: &[u8], records: &[Record]) -> bool {
+    let mut found = None;
     for record in records {
-        if let Fact::Answer(Ok(result)) = &record.fact {
-            return put_code_note(sink, asked, result);
+        if let Fact::Answer(Ok(ActionResult::Reply(reply))) = &record.fact {
+            return put_code_note(sink, line, found, reply);
         }
+        found = found_by(parties, &record.fact);
     }
     true
 }
@@ -121,14 +124,12 @@ impl<R: BufRead + Drop, S: Sink> Talk<'_, R, S> {
             return Ok(());
         }
         let number = partner.count;
-        let tracer = partner.stepping.tracer();
-        let asked = instruction_in(tracer.sight(), tracer.parties(), &slot.kept);
         let stepped = partner
             .stepping
             .perform(supply, number, &slot.kept, slot.bytes())?;
         if came == Came::Read {
             self.input.keep(line)?;
-            self.tell_outcome(partner, stepped, &asked, &slot);
+            self.tell_outcome(partner, stepped, line, &slot);
         }
         Ok(())
     }
@@ -139,10 +140,11 @@ impl<R: BufRead + Drop, S: Sink> Talk<'_, R, S> {
         &mut self,
         partner: &Partner<J>,
         stepped: Stepped,
-        asked: &Option<Executed>,
+        line: &[u8],
         slot: &ActionSlot,
     ) {
         let records = partner.stepping.records();
+        let parties = partner.stepping.tracer().parties();
         let whole = put_outcome_of(self.sink, records)
             && match stepped {
                 Stepped::Refused(fault) => {
@@ -150,8 +152,8 @@ impl<R: BufRead + Drop, S: Sink> Talk<'_, R, S> {
                     self.put_refusal(partner, &fault, slot)
                 }
                 Stepped::Accepted | Stepped::Looked => {
-                    put_code_of(self.sink, asked, records)
-                        && put_notes(self.sink, partner.stepping.tracer().parties(), records)
+                    put_code_of(self.sink, parties, line, records)
+                        && put_notes(self.sink, parties, records)
                 }
             };
         if !(whole && self.sink.put(b"\n")) {

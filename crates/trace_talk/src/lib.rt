@@ -3,7 +3,6 @@
 
 mod asking;
 mod at_machine;
-mod codes;
 pub mod due;
 mod input;
 mod notes;

@@ -1,4 +1,11 @@
-//! Looks at a machine.
+//! Looks at a machine: what waits on its wires, and the states of its subchannels, its units and its channel paths. The machine goes on
+//! to own what it shows; a sight is a copy.
+#![tactic(auto)]
+
+ghost use Rattle.std.specs.Prelude.{◌≡◌, ◌<◌, ℕ, Err, IfOk, OnErr, OnOk, length, take, true, false, slice_get, slice_index_or};
+ghost use Rattle.machine_model.specs.State as state_spec;
+ghost use Rattle.machine_sight.specs.Shown as spec;
+ghost use Rattle.machine_sight.specs.Shown.{Shows, ShowsEach, ShowsNamed};
 
 use chan_model::names::Path;
 use chan_model::unit_state::UnitState;
@@ -21,7 +28,7 @@ pub enum SightFault {
 
 impl From<AllocError> for SightFault {
     ghost use Rattle.std.specs.Prelude.{◌≡◌};
-    ghost use Rattle.trace_runs.specs.declared.seeing.SightFault.TheVariants.{NoMemory};
+    ghost use Rattle.machine_sight.specs.declared.SightFault.TheVariants.{NoMemory};
 
     ghost from_gives = { λ _ fault. fault ≡ NoMemory };
 
@@ -36,7 +43,11 @@ fn waiting_down<S: Supply>(
     supply: &mut S,
     wires: &Wires,
     path: Path,
-) -> Result<WaitingSignals, SightFault> {
+) -> Result<WaitingSignals, SightFault>
+    ensures shown { IfOk result (λ waiting. waiting ≡ spec.downs_on wires.now path) }
+    ensures unrefused { OnOk result (S.refused supply.new ≡ S.refused supply.old) }
+    ensures memory { result ≡ Err SightFault.NoMemory → S.refused supply.new ≡ true }
+{
     let mut signals = Vec::new(alloc);
     for index in 0..usize::MAX {
         match wires.down_at(path, index) {
@@ -53,7 +64,11 @@ fn waiting_up<S: Supply>(
     supply: &mut S,
     wires: &Wires,
     path: Path,
-) -> Result<WaitingSignals, SightFault> {
+) -> Result<WaitingSignals, SightFault>
+    ensures shown { IfOk result (λ waiting. waiting ≡ spec.ups_on wires.now path) }
+    ensures unrefused { OnOk result (S.refused supply.new ≡ S.refused supply.old) }
+    ensures memory { result ≡ Err SightFault.NoMemory → S.refused supply.new ≡ true }
+{
     let mut signals = Vec::new(alloc);
     for index in 0..usize::MAX {
         match wires.up_at(path, index) {
@@ -69,7 +84,11 @@ fn all_down<S: Supply>(
     alloc: Global,
     supply: &mut S,
     wires: &Wires,
-) -> Result<Vec<WaitingSignals>, SightFault> {
+) -> Result<Vec<WaitingSignals>, SightFault>
+    ensures shown { IfOk result (λ queues. (path : ℕ) → path < 8 → slice_index_or queues.items path [] ≡ spec.downs_on wires.now path) }
+    ensures unrefused { OnOk result (S.refused supply.new ≡ S.refused supply.old) }
+    ensures memory { result ≡ Err SightFault.NoMemory → S.refused supply.new ≡ true }
+{
     let mut queues = Vec::new(alloc);
     for index in 0..8u32 {
         let Some(path) = Path::new(index) else {
@@ -86,7 +105,11 @@ fn all_up<S: Supply>(
     alloc: Global,
     supply: &mut S,
     wires: &Wires,
-) -> Result<Vec<WaitingSignals>, SightFault> {
+) -> Result<Vec<WaitingSignals>, SightFault>
+    ensures shown { IfOk result (λ queues. (path : ℕ) → path < 8 → slice_index_or queues.items path [] ≡ spec.ups_on wires.now path) }
+    ensures unrefused { OnOk result (S.refused supply.new ≡ S.refused supply.old) }
+    ensures memory { result ≡ Err SightFault.NoMemory → S.refused supply.new ≡ true }
+{
     let mut queues = Vec::new(alloc);
     for index in 0..8u32 {
         let Some(path) = Path::new(index) else {
@@ -104,7 +127,11 @@ fn seen_subchannel<S: Supply, L: Looks>(
     supply: &mut S,
     looks: &L,
     word: u32,
-) -> Result<SubchannelSight, SightFault> {
+) -> Result<SubchannelSight, SightFault>
+    ensures shown { IfOk result (λ seen. spec.ShowsWord (L.state looks.now) word seen) }
+    ensures unrefused { OnOk result (S.refused supply.new ≡ S.refused supply.old) }
+    ensures memory { result ≡ Err SightFault.NoMemory → S.refused supply.new ≡ true }
+{
     let Some(sub) = looks.subchannel(word) else {
         return Err(SightFault::NotThere);
     };
@@ -121,7 +148,11 @@ fn all_subchannels<S: Supply, L: Looks>(
     supply: &mut S,
     looks: &L,
     parties: &Parties,
-) -> Result<Vec<SubchannelSight>, SightFault> {
+) -> Result<Vec<SubchannelSight>, SightFault>
+    ensures shown { IfOk result (λ sights. ShowsEach (L.state looks.now) parties.now.subchannels.items sights.items) }
+    ensures unrefused { OnOk result (S.refused supply.new ≡ S.refused supply.old) }
+    ensures memory { result ≡ Err SightFault.NoMemory → S.refused supply.new ≡ true }
+{
     let mut subchannels = Vec::new(alloc);
     for index in 0..parties.subchannels.len() {
         let word = word_of(parties.subchannels[index].id);
@@ -137,7 +168,11 @@ fn all_units<S: Supply, L: Looks>(
     supply: &mut S,
     looks: &L,
     count: usize,
-) -> Result<Vec<UnitState>, SightFault> {
+) -> Result<Vec<UnitState>, SightFault>
+    ensures shown { IfOk result (λ units. units.items ≡ take count (L.state looks.now).units) }
+    ensures unrefused { OnOk result (S.refused supply.new ≡ S.refused supply.old) }
+    ensures memory { result ≡ Err SightFault.NoMemory → S.refused supply.new ≡ true }
+{
     let mut units = Vec::new(alloc);
     for number in 0..count {
         if number >= 0x1_0000 {
@@ -152,7 +187,9 @@ fn all_units<S: Supply, L: Looks>(
 }
 
 /// Of each channel path whether it is up.
-fn all_paths<L: Looks>(looks: &L) -> [bool; PATH_IDENTIFIERS] {
+fn all_paths<L: Looks>(looks: &L) -> [bool; PATH_IDENTIFIERS]
+    ensures { (chpid : ℕ) → chpid < 256 → slice_index_or result chpid false ≡ slice_index_or (L.state looks.now).up chpid false }
+{
     let mut up = [false; PATH_IDENTIFIERS];
     for chpid in 0..PATH_IDENTIFIERS {
         up[chpid] = looks.is_path_up(chpid as u8);
@@ -166,7 +203,11 @@ pub fn seen<S: Supply, L: Looks>(
     supply: &mut S,
     looks: &L,
     parties: &Parties,
-) -> Result<Sight, SightFault> {
+) -> Result<Sight, SightFault>
+    ensures shown { IfOk result (λ sight. Shows (L.state looks.now) parties.now sight) }
+    ensures unrefused { OnOk result (S.refused supply.new ≡ S.refused supply.old) }
+    ensures memory { result ≡ Err SightFault.NoMemory → S.refused supply.new ≡ true }
+{
     Ok(Sight {
         subchannels: all_subchannels(alloc, supply, looks, parties)?,
         units: all_units(alloc, supply, looks, parties.units.len())?,
