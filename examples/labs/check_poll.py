@@ -51,8 +51,8 @@ SITUATIONS = (
     Situation("attention of the console with the end", (60,), {1: ATTENTION}, shown="00000011 00000000 80000000"),
     Situation("attention of the disk before the start", (2,), first=("attn 0 0", "up 0 0"), shown="00000011 00000000 80000000"),
     Situation("attention of the disk meets the start", (2,), {1: ("up 0 0",)}, first=("attn 0 0",), shown="cc 0 01804011"),
-    Situation("a path is lost under the write", (1,), {8: ("pathdown 10",)}, shown="0002000"),
-    Situation("a path is lost under the read", (60,), {2: ("turn 0 8", "pathdown 11")}, shown="0002000"),
+    Situation("a path is lost under the write", (1,), {8: ("pathdown 10",)}, shown=" 0002"),
+    Situation("a path is lost under the read", (60,), {2: ("turn 0 8", "pathdown 11")}, shown=" 0002"),
     Situation("all paths are down", (5,), first=("pathdown 10", "pathdown 11"), is_good=False, shown="cc 0 03"),
     Situation("the device rejects the write", (2,), first=("put 1000 FF",), is_good=False, shown=" 02"),
     Situation("the subchannel is not enabled", (2,), first=("stsch 0 F00", "put F05 01", "msch 0 F00"), is_good=False, shown="cc 3"),
@@ -119,7 +119,7 @@ def wrong_instructions(executed: List[Executed]) -> Iterator[str]:
     """What the instructions and their codes show."""
     for instruction in executed:
         if is_of(instruction, "ssch", DISK) and instruction.code == 2:
-            yield "it started a program while the one before was not over: START SUBCHANNEL was answered code 2"
+            yield "it started while something was in progress: START SUBCHANNEL was answered code 2"
             break
     for number, instruction in enumerate(executed):
         if is_failure(instruction) and executed[number + 1 :]:
@@ -134,7 +134,7 @@ def wrong_statuses(world: World, executed: List[Executed]) -> Iterator[str]:
         made, cleared = world.statuses(subchannel)
         taken = sum(statuses_in(status_of(it, subchannel)) for it in executed)
         if cleared < made:
-            yield f"status of the {name} is left pending: no TEST SUBCHANNEL was executed for it after its request"
+            yield f"status of the {name} is left pending: TEST SUBCHANNEL never took it"
         if taken < cleared:
             yield f"status of the {name} was cleared, and TEST SUBCHANNEL did not show it"
 
@@ -214,7 +214,7 @@ def check(file: Path, program: str) -> List[str]:
 
 # The wrong drivers, with what begins the first reason of each situation in which it fails.
 WRONG = {
-    "takes_any_status_for_the_end.py": "it started a program while the one before was not over",
+    "takes_any_status_for_the_end.py": "it started while something was in progress",
     "tests_always_its_own_subchannel.py": "status of the console is left pending",
 }
 

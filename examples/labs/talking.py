@@ -40,7 +40,7 @@ class BadLine(TalkError):
 
 
 class TalkEnded(TalkError):
-    """No answer came: the program has ended."""
+    """No answer comes: the program has ended, or never began."""
 
 
 @dataclass(frozen=True)
@@ -63,9 +63,12 @@ class Talking:
     """A program `chtrace talk` that was begun, and ends as this is closed."""
 
     def __init__(self, program: str = "chtrace") -> None:
-        self._process = subprocess.Popen(
-            [program, "talk"], stdin=subprocess.PIPE, stdout=subprocess.PIPE, encoding="utf-8", bufsize=1
-        )
+        try:
+            self._process = subprocess.Popen(
+                [program, "talk"], stdin=subprocess.PIPE, stdout=subprocess.PIPE, encoding="utf-8", bufsize=1
+            )
+        except OSError as fault:
+            raise TalkEnded(f"{program} cannot be run: build it (docs/TRACING.md), and give its path") from fault
 
     def __enter__(self) -> Talking:
         return self
@@ -113,7 +116,7 @@ class Talking:
         return int(count, 16)
 
     def back(self) -> str:
-        """Takes the last line back, with all that it did: that line."""
+        """Takes the last line back, with all that it did: that line. Behind a turn it is the last of its events."""
         printed = self.say("back").printed
         if not printed.endswith(" is undone"):
             raise TalkError(printed)
