@@ -21,7 +21,7 @@ Driver = Callable[[Cpu], bool]
 HERE = Path(__file__).resolve().parent
 SCRIPT = HERE / "disk-and-console.chs"
 WRITTEN, READ_BACK, BYTES = 0x2000, 0x3000, 8
-MOST_WAITS = 400
+MOST_WAITS = 200
 NAMES = {DISK: "disk", CONSOLE: "console"}
 
 
@@ -52,7 +52,7 @@ SITUATIONS = (
     Situation("attention of the disk before the start", (2,), first=("attn 0 0", "up 0 0"), shown="00000011 00000000 80000000"),
     Situation("attention of the disk meets the start", (2,), {1: ("up 0 0",)}, first=("attn 0 0",), shown="cc 0 01804011"),
     Situation("a path is lost under the write", (1,), {8: ("pathdown 10",)}, shown=" 0002"),
-    Situation("a path is lost under the read", (60,), {2: ("turn 0 8", "pathdown 11")}, shown=" 0002"),
+    Situation("a path is lost under the read", (60,), {2: ("turn 0 6", "pathdown 11")}, shown=" 0002"),
     Situation("all paths are down", (5,), first=("pathdown 10", "pathdown 11"), is_good=False, shown="cc 0 03"),
     Situation("the device rejects the write", (2,), first=("put 1000 FF",), is_good=False, shown=" 02"),
     Situation("the subchannel is not enabled", (2,), first=("stsch 0 F00", "put F05 01", "msch 0 F00"), is_good=False, shown="cc 3"),

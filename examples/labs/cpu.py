@@ -77,7 +77,7 @@ class Executed:
 class Cpu:
     """A CPU with storage. `wait` lets time pass: devices and channel subsystem work then, and at no other time."""
 
-    def __init__(self, talk: Talking, passing: Callable[[], object], most: int = 2000) -> None:
+    def __init__(self, talk: Talking, passing: Callable[[], object], most: int = 1000) -> None:
         """`passing` is what happens in a wait; so many instructions are executed at most."""
         self._talk = talk
         self._passing = passing
