@@ -1,8 +1,9 @@
 """Checks a driver of the exercise of docs/TEACHING.md: it is run in each of several situations, and judged by what is seen.
 
-    python3 examples/labs/check_poll.py SOLUTION.py [PROGRAM]    PROGRAM is chtrace, which is looked for in PATH where it is not given
-    python3 examples/labs/check_poll.py --itself [PROGRAM]       the check itself: the right driver passes, each wrong one fails by its reason
+    python3 examples/labs/check_poll.py SOLUTION.py [PROGRAM]
+    python3 examples/labs/check_poll.py --itself [PROGRAM]    checks the check: poll.py passes, each wrong driver fails by its reason
 
+PROGRAM is chtrace, which is looked for in PATH where it is not given.
 Exit status: 0 where the driver passes in all situations, else 1; 2 where the words are not right.
 """
 
