@@ -2,7 +2,7 @@
 //! to own what it shows; a sight is a copy.
 #![tactic(auto)]
 
-ghost use Rattle.std.specs.Prelude.{◌≡◌, ◌<◌, ℕ, Err, IfOk, OnErr, OnOk, length, take, true, false, slice_get, slice_index_or};
+ghost use Rattle.std.specs.Prelude.{◌≡◌, ◌<◌, ℕ, [], Err, IfOk, OnErr, OnOk, length, take, true, false, slice_get, slice_index_or};
 ghost use Rattle.machine_model.specs.State as state_spec;
 ghost use Rattle.machine_sight.specs.Shown as spec;
 ghost use Rattle.machine_sight.specs.Shown.{Shows, ShowsEach, ShowsNamed};

@@ -139,7 +139,7 @@ pub fn put_refusal_reason<S: Sink, L: Looks>(
         Fault::ConfigBad(_) => sink.put(b"a rule of configurations is broken"),
         Fault::ScriptBad(_, _) => sink.put(b"a rule of scripts is broken"),
         Fault::Storage(kind) => put_storage(sink, refused.action, *kind),
-        Fault::Operand => put_operand(sink, refused.action, refused.operand),
+        Fault::Operand => put_operand(sink, refused),
     }
 }
 

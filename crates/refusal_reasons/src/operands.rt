@@ -1,8 +1,10 @@
 //! Operands that are refused, as they are told of.
 
+use crate::Refused;
 use crate::signals::put_subchannel;
 use chan_events::event::{Event, Instruction, OtherInstruction};
 use channel_config::names::subchannel_named;
+use channel_config::parts::SubchannelSetup;
 use line_reasons::numbers::put_hex;
 use script_rows::Action;
 use storage_keys::StorageFault;
@@ -114,16 +116,24 @@ fn operand_text(instruction: Instruction, block: &[u8]) -> &'static [u8] {
     }
 }
 
+/// What is wrong with a subsystem-identification word; None where a subchannel of its set is configured.
+fn word_text(subchannels: &[SubchannelSetup], word: u32) -> Option<&'static [u8]> {
+    match subchannel_named(MOST_SETS, word) {
+        None => Some(b" is no subsystem-identification word"),
+        Some(id) if subchannels.iter().any(|setup| setup.id.set >= id.set) => None,
+        Some(_) => Some(b" is of a set that has no subchannel"),
+    }
+}
+
 /// Why an operand is not allowed.
-pub fn put_operand<S: Sink>(sink: &mut S, action: &Action, block: &[u8]) -> bool {
-    match action {
+pub fn put_operand<S: Sink>(sink: &mut S, refused: &Refused<'_>) -> bool {
+    match refused.action {
         Action::Event(Event::Execute { instruction, .. }) => {
             let word = instruction.subchannel_word();
-            if subchannel_named(MOST_SETS, word).is_none() {
-                return put_subchannel(sink, word)
-                    && sink.put(b" is no subsystem-identification word");
+            match word_text(refused.subchannels, word) {
+                Some(text) => put_subchannel(sink, word) && sink.put(text),
+                None => sink.put(operand_text(*instruction, refused.operand)),
             }
-            sink.put(operand_text(*instruction, block))
         }
         Action::Event(
             Event::ExecuteOther {

@@ -1,5 +1,5 @@
 -- What the records of a script tell of its lines.
-use Rattle.std.specs.Prelude.{◌≡◌, ◌-◌, ◌×◌, ℕ, true, false, List, [], ◌∷◌, ◌++◌, length, map, slice_get, Some}
+use Rattle.std.specs.Prelude.{◌≡◌, ◌-◌, ℕ, true, false, List, [], ◌∷◌, ◌++◌, length, map, slice_get, Some}
 use Rattle.std.specs.List.{flat_map}
 use Rattle.chan_events.specs.declared.reply.Entry.{Entry}
 use Rattle.channel_config.specs.Setup.{Setup}

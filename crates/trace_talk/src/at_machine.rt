@@ -95,7 +95,7 @@ impl<R: BufRead + Drop, S: Sink> Talk<'_, R, S> {
                 Some(Asked::Turn { subchannel, most }) => {
                     return self.turn(supply, partner, subchannel, most);
                 }
-                None => return self.refuse_asking(),
+                None => return self.refuse_asking(line),
             }
         }
         if !self.is_good(supply, &mut partner.checker, partner.count, line)? {
@@ -206,6 +206,10 @@ impl<R: BufRead + Drop, S: Sink> Talk<'_, R, S> {
         subchannel: u32,
         most: u32,
     ) -> Result<Heard, TraceFault> {
+        let parties = partner.stepping.tracer().parties();
+        if parties.subchannel_named(subchannel).is_none() {
+            return self.refuse(b"no such subchannel");
+        }
         for count in 0..most {
             let due = partner.stepping.due_for(supply, subchannel)?;
             let number = partner.count.saturating_add(1);

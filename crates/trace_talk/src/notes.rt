@@ -1,5 +1,6 @@
 //! What is told of an action behind its answer.
 
+use record_text::fields::put_between;
 use record_text::names::kind_of;
 use record_text::put_signal;
 use record_text::told::{put_path_state, put_program, put_report, put_request_short};
@@ -7,6 +8,7 @@ use step_records::parties::Parties;
 use step_records::record::{Fact, Moved, Record};
 use streams::Sink;
 use word_names::{put_count, put_short_status, put_status_names};
+use zbits::field;
 
 /// What is told behind an answer: programs that went on, status, requests, reports, paths and signals that were lost, parted by
 /// semicolons, and before them two blanks; nothing where there are none.
@@ -60,12 +62,30 @@ fn put_note<S: Sink>(sink: &mut S, parties: &Parties, fact: &Fact) -> bool {
     }
 }
 
+/// Whether a status is pending that says nothing else by the bits of its status control.
+fn is_alone(control: u32) -> bool {
+    field(control, 27, 30) == 0
+}
+
+/// The names of a status, and its deferred condition code where it has one.
+fn put_names<S: Sink>(sink: &mut S, control: u32) -> bool {
+    let named = if is_alone(control) {
+        sink.put(b"pending alone")
+    } else {
+        put_status_names(sink, control)
+    };
+    match field(control, 6, 7) {
+        0 => named,
+        code => named && put_between(sink, b"; deferred condition code ", u64::from(code), b""),
+    }
+}
+
 /// Status that was made pending: `STATUS primary, secondary; CE, DE; count 0`.
 fn put_status<S: Sink>(sink: &mut S, words: &[u32; 3]) -> bool {
     let device = (words[2] / 0x100_0000) as u8;
     let subchannel = (words[2] / 0x1_0000 % 0x100) as u8;
     sink.put(b"STATUS ")
-        && put_status_names(sink, words[0])
+        && put_names(sink, words[0])
         && (device == 0 && subchannel == 0
             || sink.put(b"; ") && put_short_status(sink, device, subchannel))
         && sink.put(b"; ")

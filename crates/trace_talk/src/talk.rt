@@ -149,11 +149,8 @@ impl<R: BufRead + Drop, S: Sink> Talk<'_, R, S> {
                     self.answer(b"");
                     return Ok(Heard::Answered);
                 }
-                Some(Asked::Turn { .. }) => {
-                    self.answer(NO_MACHINE);
-                    return Ok(Heard::Answered);
-                }
-                None => return self.refuse_asking(),
+                Some(Asked::Turn { .. }) => return self.refuse(NO_MACHINE),
+                None => return self.refuse_asking(line),
             }
         }
         if !self.is_good(supply, &mut set_up.checker, set_up.count, line)? {
@@ -193,8 +190,7 @@ impl<R: BufRead + Drop, S: Sink> Talk<'_, R, S> {
     pub(crate) fn take_back(&mut self) -> Result<Heard, TraceFault> {
         let mut line = Vec::new(self.alloc);
         if !self.input.take_back(&mut line)? {
-            self.answer(b"there is no line to take back");
-            return Ok(Heard::Answered);
+            return self.refuse(b"there is no line to take back");
         }
         if !(self.sink.put(line.as_slice()) && self.sink.put(b" is undone\n")) {
             self.talked.whole = false;
@@ -202,13 +198,30 @@ impl<R: BufRead + Drop, S: Sink> Talk<'_, R, S> {
         Ok(Heard::Back)
     }
 
-    /// A line that is no question and no turn, and begins like one.
-    pub(crate) fn refuse_asking(&mut self) -> Result<Heard, TraceFault> {
+    /// A line that is not performed, and why.
+    pub(crate) fn refuse(&mut self, why: &[u8]) -> Result<Heard, TraceFault> {
         self.talked.bad = true;
-        self.answer(
-            b"bad line: ?, ? due, ? scsw S, ? unit U, ? wires S, turn S N and back are what can be asked",
-        );
+        if !self.sink.put(b"bad line: ") {
+            self.talked.whole = false;
+        }
+        self.answer(why);
         Ok(Heard::Answered)
+    }
+
+    /// A line that is no question and no turn, and begins like one.
+    pub(crate) fn refuse_asking(&mut self, line: &[u8]) -> Result<Heard, TraceFault> {
+        self.refuse(
+            b"?, ? due, ? scsw S, ? unit U, ? wires S, turn S N and back are what can be asked",
+        )?;
+        self.end_question(line);
+        Ok(Heard::Answered)
+    }
+
+    /// What begins with a question mark is answered with an empty line at its end, also where it is bad.
+    fn end_question(&mut self, line: &[u8]) {
+        if line.starts_with(b"?") {
+            self.answer(b"");
+        }
     }
 
     /// Whether a line is good after those that were kept; what is wrong with it is told.
@@ -230,6 +243,7 @@ impl<R: BufRead + Drop, S: Sink> Talk<'_, R, S> {
                 {
                     self.talked.whole = false;
                 }
+                self.end_question(line);
                 Ok(false)
             }
         }

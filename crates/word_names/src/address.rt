@@ -11,7 +11,10 @@ use zbits::flag;
 /// How much further than the channel-command word that was tried last the address of a status is.
 const CCW_BYTES: u32 = 8;
 
-/// The bits of word 0 that say that a start function is in progress, and that status is pending.
+/// The bits of word 0 in which a deferred condition code is, and those that say that a start function is in progress, and that status
+/// is pending.
+const DEFERRED_CODE: (u32, u32) = (6, 7);
+
 const START_FUNCTION: u32 = 17;
 
 const STATUS_PENDING: u32 = 31;
@@ -23,22 +26,26 @@ pub enum AddressMeaning {
     Nothing,
     /// It is where the program begins: no status was made for it yet.
     Begins,
+    /// It is where the program begins: no channel-command word of it was fetched.
+    Unfetched,
     /// It is 8 past the channel-command word that was tried last.
     Past,
 }
 
-/// What the CCW address says beside this word 0: nothing, where it is zero; where the start function is in progress and no
-/// status is pending, the program begins there; otherwise it is that of a status.
+/// What the CCW address says beside this word 0: nothing, where it is zero; where a deferred condition code is told, or the start
+/// function is in progress and no status is pending, the program begins there; otherwise it is that of a status.
 ///
 /// A program of which status was made and cleared while it goes on, as that of a program-controlled interruption, shows the
-/// same word 0 as one that only begins, and is taken for one.
+/// same word 0 as one that only begins, and is taken for one; a deferred condition code that was cleared does not show any more.
 pub fn address_meaning(control: u32, address: u32) -> AddressMeaning
     ensures { result ≡ spec.meaning_of control address }
 {
     if address == 0 {
         return AddressMeaning::Nothing;
     }
-    if flag(control, START_FUNCTION) && !flag(control, STATUS_PENDING) {
+    if flag(control, DEFERRED_CODE.0) || flag(control, DEFERRED_CODE.1) {
+        AddressMeaning::Unfetched
+    } else if flag(control, START_FUNCTION) && !flag(control, STATUS_PENDING) {
         AddressMeaning::Begins
     } else {
         AddressMeaning::Past
@@ -61,6 +68,9 @@ pub fn put_address<S: Sink>(sink: &mut S, meaning: AddressMeaning, address: u32)
         AddressMeaning::Begins => sink.put(
             b"CCW address: the program begins there; no status was made for it yet",
         ),
+        AddressMeaning::Unfetched => {
+            sink.put(b"CCW address: the program begins there; no CCW of it was fetched")
+        }
         AddressMeaning::Past => put_hex_after(
             sink,
             b"CCW address: 8 past the last CCW, at ",

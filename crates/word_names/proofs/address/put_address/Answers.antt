@@ -18,3 +18,6 @@ returns-in-Past g c =
     (ap (λ (n : ℕ). codes "CCW address: 8 past the last CCW, at " ++ hex_text 1 n) c.last_ccw.ensures
     ∙ ap (λ (m : AddressMeaning). spec.meaning_text m c.args.address) (sym c.in-Past.is))
     c.put_hex_after.ensures
+
+pub returns-in-Unfetched : goal.returns-in-Unfetched
+returns-in-Unfetched g c = text_as _ _ _ _ _ (ap (λ (m : AddressMeaning). spec.meaning_text m c.args.address) (sym c.in-Unfetched.is)) c.put-in-Unfetched.ensures
