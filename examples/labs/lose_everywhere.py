@@ -78,11 +78,11 @@ def is_end(status: List[str]) -> bool:
 
 def names(program: str, status: List[str]) -> str:
     """The names of a status, by `chtrace words`."""
-    line = f"scsw {' '.join(status)}\n"
-    said = subprocess.run([program, "words"], input=line, stdout=subprocess.PIPE, text=True, check=True).stdout
-    first, second, _, third = [row[14:] for row in said.splitlines()[1:]]
+    said = subprocess.run([program, "words"], input=" ".join(["scsw", *status]), stdout=subprocess.PIPE, text=True, check=True).stdout
+    first, second, _, third = [line[14:] for line in said.splitlines()[1:]]
     found = first.split("; ")[1:] + [second.partition("| status ")[2].replace(", status pending", "")]
-    return "; ".join(found + [part for part in third.split(" | ") if not part.endswith(" none")])
+    parts = [part for part in third.split(" | ") if not part.endswith(" none")]
+    return "; ".join([*found, *parts, "CCW address " + status[1].lstrip("0")])
 
 
 def row(program: str, number: int) -> str:
