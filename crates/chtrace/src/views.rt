@@ -121,6 +121,7 @@ pub fn talk_on(rt: &HostRuntime, supply: &mut Allocator) -> Result<Outcome, Outc
     let mut sink = CheckedWriter::new(io::writer(rt));
     let talked = run_talk(rt.alloc(), supply, rt.reader(), &mut sink)?;
     match written(&mut sink, talked.whole, talked.refused) {
+        Outcome::Done { .. } if talked.unread => Ok(Outcome::Unread),
         Outcome::Done { .. } if talked.bad => Ok(Outcome::Bad),
         ended => Ok(ended),
     }

@@ -143,28 +143,24 @@ fn is_reached(subchannels: &[SubchannelSetup], unit: u32, side: Side) -> bool {
         && subchannel.side.same(side))
 }
 
-/// Why a side of a unit is told nothing, or asked for no attention.
-fn put_side_reason<S: Sink>(
-    sink: &mut S,
-    subchannels: &[SubchannelSetup],
-    unit: u32,
-    side: Side,
-    state: &UnitState,
-) -> bool {
-    let fresh = match side {
-        Side::First => state.first.fresh,
-        Side::Second => state.second.fresh,
-    };
-    if !is_reached(subchannels, unit, side) {
-        return sink.put(b"no subchannel reaches ") && put_side(sink, unit, side, b"");
-    }
+/// Why a unit gives no notice on a side that a subchannel reaches.
+fn put_no_notice<S: Sink>(sink: &mut S, unit: u32, side: Side) -> bool {
+    put_side(sink, unit, side, b" was not restarted since it was reset last")
+}
+
+/// Why a unit asks for no attention on a side that a subchannel reaches.
+fn put_no_attention<S: Sink>(sink: &mut S, unit: u32, side: Side, state: &UnitState) -> bool {
     match state.own {
         Own::Owned { number, .. } => {
             put_program(sink, number, b" holds ") && put_unit(sink, unit, b"")
         }
-        Own::Idle if fresh => { put_side(sink, unit, side, b" was reset since the last restart") }
         Own::Idle => put_side(sink, unit, side, b" was not reset since the last restart"),
     }
+}
+
+/// A side of a unit that no subchannel reaches.
+fn put_unreached<S: Sink>(sink: &mut S, unit: u32, side: Side) -> bool {
+    sink.put(b"no subchannel reaches ") && put_side(sink, unit, side, b"")
 }
 
 /// Why a unit does not act now; its device, where no act is named.
@@ -181,8 +177,12 @@ pub fn put_not_now<S: Sink, L: Looks>(
     match act {
         None => put_no_turn(sink, looks, subchannels, unit),
         Some(UnitAct::Leave | UnitAct::Ask { .. }) => put_place(sink, unit, state),
-        Some(UnitAct::Attention { side, .. } | UnitAct::Notice { side, .. }) => {
-            put_side_reason(sink, subchannels, unit, side, state)
+        Some(UnitAct::Attention { side, .. } | UnitAct::Notice { side, .. })
+            if !is_reached(subchannels, unit, side) =>
+        {
+            put_unreached(sink, unit, side)
         }
+        Some(UnitAct::Attention { side, .. }) => put_no_attention(sink, unit, side, state),
+        Some(UnitAct::Notice { side, .. }) => put_no_notice(sink, unit, side),
     }
 }

@@ -69,7 +69,7 @@ impl<R: BufRead + Drop, S: Sink> Talk<'_, R, S> {
         let mut line = Vec::new(self.alloc);
         for _ in 0..u64::MAX {
             let came = self.input.next(&mut line)?;
-            if came == Came::Ended || !self.talked.whole {
+            if self.is_over(came) {
                 break;
             }
             if let Heard::Back = self.hear(supply, partner, came, line.as_slice())? {

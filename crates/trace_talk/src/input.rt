@@ -14,6 +14,8 @@ pub(crate) enum Came {
     Read,
     /// No line.
     Ended,
+    /// The reader failed.
+    Unread,
 }
 
 /// Lines that were kept, of which so many bytes came again, and a reader of further ones.
@@ -54,7 +56,7 @@ impl<R: BufRead + Drop> Input<R> {
         }
     }
 
-    /// Writes the next line into a list, without its line feed. A reader that fails ends the talk.
+    /// Writes the next line into a list, without its line feed.
     pub(crate) fn next(&mut self, line: &mut Vec<u8>) -> Result<Came, TraceFault> {
         line.clear();
         if self.at < self.kept.len() {
@@ -64,7 +66,8 @@ impl<R: BufRead + Drop> Input<R> {
             return Ok(Came::Kept);
         }
         match self.reader.read_until(b'\n', line) {
-            Ok(0) | Err(_) => Ok(Came::Ended),
+            Err(_) => Ok(Came::Unread),
+            Ok(0) => Ok(Came::Ended),
             Ok(_) => {
                 if line.ends_with(b"\n") {
                     line.truncate(line.len() - 1);

@@ -1,5 +1,6 @@
 //! What is told of an action behind its answer.
 
+use crate::queries::put_statuses;
 use record_text::fields::put_between;
 use record_text::names::kind_of;
 use record_text::put_signal;
@@ -7,7 +8,7 @@ use record_text::told::{put_path_state, put_program, put_report, put_request_sho
 use step_records::parties::Parties;
 use step_records::record::{Fact, Moved, Record};
 use streams::Sink;
-use word_names::{put_count, put_short_status, put_status_names};
+use word_names::put_status_names;
 use zbits::field;
 
 /// What is told behind an answer: programs that went on, status, requests, reports, paths and signals that were lost, parted by
@@ -82,12 +83,8 @@ fn put_names<S: Sink>(sink: &mut S, control: u32) -> bool {
 
 /// Status that was made pending: `STATUS primary, secondary; CE, DE; count 0`.
 fn put_status<S: Sink>(sink: &mut S, words: &[u32; 3]) -> bool {
-    let device = (words[2] / 0x100_0000) as u8;
-    let subchannel = (words[2] / 0x1_0000 % 0x100) as u8;
     sink.put(b"STATUS ")
         && put_names(sink, words[0])
-        && (device == 0 && subchannel == 0
-            || sink.put(b"; ") && put_short_status(sink, device, subchannel))
         && sink.put(b"; ")
-        && put_count(sink, words[2])
+        && put_statuses(sink, words[2])
 }

@@ -14,7 +14,10 @@ use step_records::parties::Parties;
 use step_records::record::{Way, Wire};
 use step_records::sight::{Sight, SubchannelSight};
 use streams::Sink;
-use word_names::{put_activity, put_functions, put_scsw_control, put_status_control};
+use word_names::{
+    put_activity, put_count, put_functions, put_scsw_control, put_short_status, put_status_control,
+};
+use zbits::field;
 
 /// What a look at a machine showed, and who there is.
 #[derive(Drop)]
@@ -133,6 +136,17 @@ fn put_words_of<S: Sink>(sink: &mut S, seen: &SubchannelSight) -> bool {
         && put_activity(sink, words[0])
         && sink.put(b" | status ")
         && put_status_control(sink, words[0])
+        && sink.put(b" | ")
+        && put_statuses(sink, words[2])
+}
+
+/// The device status and the subchannel status of a word, where there are some, and its count.
+pub(crate) fn put_statuses<S: Sink>(sink: &mut S, word: u32) -> bool {
+    let device = field(word, 0, 7) as u8;
+    let subchannel = field(word, 8, 15) as u8;
+    (device == 0 && subchannel == 0
+        || put_short_status(sink, device, subchannel) && sink.put(b"; "))
+        && put_count(sink, word)
 }
 
 /// What the subsystem takes the device to be held by.

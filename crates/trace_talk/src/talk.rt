@@ -30,6 +30,8 @@ use trace_runs::tracer::Tracer;
 pub struct Talked {
     /// All answers were written; otherwise the sink failed.
     pub whole: bool,
+    /// The reader failed before its end.
+    pub unread: bool,
     /// Some line was refused.
     pub refused: bool,
     /// Some line was bad.
@@ -90,6 +92,7 @@ pub fn run_talk<M: CoreSupply, R: BufRead + Drop, S: Sink>(
         sink,
         talked: Talked {
             whole: true,
+            unread: false,
             refused: false,
             bad: false,
         },
@@ -103,6 +106,12 @@ pub fn run_talk<M: CoreSupply, R: BufRead + Drop, S: Sink>(
 }
 
 impl<R: BufRead + Drop, S: Sink> Talk<'_, R, S> {
+    /// Whether no line is to be answered any more.
+    pub(crate) fn is_over(&mut self, came: Came) -> bool {
+        self.talked.unread = came == Came::Unread;
+        came == Came::Ended || came == Came::Unread || !self.talked.whole
+    }
+
     /// Answers in one line.
     pub(crate) fn answer(&mut self, text: &[u8]) {
         if !(self.sink.put(text) && self.sink.put(b"\n")) {
@@ -120,7 +129,7 @@ impl<R: BufRead + Drop, S: Sink> Talk<'_, R, S> {
         let mut line = Vec::new(self.alloc);
         for _ in 0..u64::MAX {
             let came = self.input.next(&mut line)?;
-            if came == Came::Ended || !self.talked.whole {
+            if self.is_over(came) {
                 break;
             }
             match self.set_up_by(supply, &mut set_up, came, line.as_slice())? {
