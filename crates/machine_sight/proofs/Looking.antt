@@ -1,7 +1,7 @@
 -- Lists that grow by one in each turn of a look.
-use Rattle.std.proofs.Common.{◌≡◌, ◌∙◌, ◌<◌, ◌≤◌, ◌+◌, ℕ, zero, suc, refl, sym, ap, subst, arith, List, [], ◌∷◌, ◌++◌, length, map, take}
+use Rattle.std.proofs.Common.{◌≡◌, ◌∙◌, ◌<◌, ◌+◌, ℕ, zero, suc, sym, ap, subst, arith, List, [], ◌∷◌, ◌++◌, length, map, take}
 use Rattle.std.proofs.lemmas.List.{map_push, take_all, take_more}
-use Rattle.std.proofs.lemmas.Option.{get_or_from_slice_get, slice_get_cases, slice_get_within}
+use Rattle.std.proofs.lemmas.Option.{get_or_from_slice_get, slice_get_within}
 use Rattle.std.specs.Prelude.{slice_get, slice_index_or, None, Some}
 use Rattle.channel_config.specs.declared.parts.SubchannelSetup.{SubchannelSetup}
 use Rattle.machine_model.specs.State.{State}
@@ -23,6 +23,15 @@ told-more f xs i x old new y was there is pushed =
     ∙ ap (λ z. map f (take i xs) ++ z ∷ []) is
     ∙ sym (map_push f (take i xs) x)
     ∙ ap (map f) (sym (taken-more xs i x there))
+
+-- the same where each is copied
+pub units-more : {A : Type 0} (xs : List A) (i : ℕ) (old new : List A) (x : A) → old ≡ take i xs → (y : A) → slice_get xs i ≡ Some y → x ≡ y →
+    new ≡ old ++ x ∷ [] → new ≡ take (i + 1) xs
+units-more xs i old new x was y there same pushed =
+    pushed
+    ∙ ap (λ ys. ys ++ x ∷ []) was
+    ∙ ap (λ z. take i xs ++ z ∷ []) same
+    ∙ sym (taken-more xs i y there)
 
 -- past the last element all are taken
 pub past-all : {A : Type 0} (xs : List A) (i : ℕ) → slice_get xs i ≡ None → take i xs ≡ xs

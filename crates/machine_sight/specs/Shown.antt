@@ -1,5 +1,5 @@
 -- What a look at a machine shows.
-use Rattle.std.specs.Prelude.{◌≡◌, ◌<◌, ◌+◌, ◌==◌, ⊤, ℕ, false, List, [], ◌∷◌, length, map, take, slice_get, slice_index_or, Option, None, Some}
+use Rattle.std.specs.Prelude.{◌≡◌, ◌<◌, ◌+◌, ◌==◌, ⊤, ℕ, false, List, [], ◌∷◌, length, map, take, slice_index_or, Some}
 use Rattle.zbits.specs.Bits.{bit_of}
 use Rattle.channel_config.specs.declared.parts.SubchannelSetup.{SubchannelSetup}
 use Rattle.interruptions.specs.Requests.{has_request}

@@ -154,9 +154,8 @@ fn all_subchannels<S: Supply, L: Looks>(
     ensures memory { result ≡ Err SightFault.NoMemory → S.refused supply.new ≡ true }
 {
     let mut subchannels = Vec::new(alloc);
-    for index in 0..parties.subchannels.len() {
-        let word = word_of(parties.subchannels[index].id);
-        let seen = seen_subchannel(alloc, supply, looks, word)?;
+    for setup in parties.subchannels.as_slice() {
+        let seen = seen_subchannel(alloc, supply, looks, word_of(setup.id))?;
         push(supply, &mut subchannels, seen)?;
     }
     Ok(subchannels)

@@ -3,8 +3,8 @@ use Rattle.machine_sight.specs.Shown.{ShowsEach}
 use Rattle.machine_sight.proofs.all_subchannels.Given as goal
 
 -- the subchannels so far
-abbrev pub invariant-loop-index : goal.invariant-loop-index
-invariant-loop-index g l = record {
-  shown : ShowsEach (g.L.Looks.state l.looks) (take l.index l.parties.subchannels.items) l.subchannels.items;
+abbrev pub invariant-loop-setup : goal.invariant-loop-setup
+invariant-loop-setup g l = record {
+  shown : ShowsEach (g.L.Looks.state l.looks) (take l.setup-index l.parties.subchannels.items) l.subchannels.items;
   unrefused : g.S.Supply.refused l.supply ≡ g.S.Supply.refused l.fn.supply;
 }
