@@ -145,7 +145,12 @@ fn is_reached(subchannels: &[SubchannelSetup], unit: u32, side: Side) -> bool {
 
 /// Why a unit gives no notice on a side that a subchannel reaches.
 fn put_no_notice<S: Sink>(sink: &mut S, unit: u32, side: Side) -> bool {
-    put_side(sink, unit, side, b" was not restarted since it was reset last")
+    put_side(
+        sink,
+        unit,
+        side,
+        b" was not restarted since it was reset last",
+    )
 }
 
 /// Why a unit asks for no attention on a side that a subchannel reaches.
@@ -178,10 +183,7 @@ pub fn put_not_now<S: Sink, L: Looks>(
         None => put_no_turn(sink, looks, subchannels, unit),
         Some(UnitAct::Leave | UnitAct::Ask { .. }) => put_place(sink, unit, state),
         Some(UnitAct::Attention { side, .. } | UnitAct::Notice { side, .. })
-            if !is_reached(subchannels, unit, side) =>
-        {
-            put_unreached(sink, unit, side)
-        }
+            if !is_reached(subchannels, unit, side) => { put_unreached(sink, unit, side) }
         Some(UnitAct::Attention { side, .. }) => put_no_attention(sink, unit, side, state),
         Some(UnitAct::Notice { side, .. }) => put_no_notice(sink, unit, side),
     }

@@ -27,12 +27,7 @@ pub(crate) fn put_answer<S: Sink>(
 }
 
 /// A reply: the condition code with what it says, and the words that were stored.
-fn put_reply<S: Sink>(
-    sink: &mut S,
-    line: &[u8],
-    found: Option<Found>,
-    reply: &Reply,
-) -> bool {
+fn put_reply<S: Sink>(sink: &mut S, line: &[u8], found: Option<Found>, reply: &Reply) -> bool {
     match reply {
         Reply::ChannelReport(Some(crw)) => put_report(sink, *crw),
         Reply::Status { scsw, .. } => {
@@ -46,12 +41,7 @@ fn put_reply<S: Sink>(
 }
 
 /// The condition code of a reply, with what it says; of a reply that tells none, the words of a script's run.
-fn put_meant<S: Sink>(
-    sink: &mut S,
-    line: &[u8],
-    found: Option<Found>,
-    reply: &Reply,
-) -> bool {
+fn put_meant<S: Sink>(sink: &mut S, line: &[u8], found: Option<Found>, reply: &Reply) -> bool {
     let told = match code_of(reply) {
         Some(code) => put_code(sink, code) && put_code_note(sink, line, found, reply),
         None => script_text::put_reply(sink, reply),

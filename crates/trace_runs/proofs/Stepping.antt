@@ -146,7 +146,7 @@ stepped_told old middle new line action outcome told before after acts alike sam
             subst (λ (p : Parties). IsMovedBy p old.sight entry first k.facts) alike
             (subst (λ (s : Sight). IsMovedBy middle.parties s entry first k.facts) same
             (k.moves entry (last_grown old.machine.past.history middle.machine.past.history entry
-                (ap (λ (m : Installed). m.past.history) (sym k.machine_stays) ∙ grown))));
+            (ap (λ (m : Installed). m.past.history) (sym k.machine_stays) ∙ grown))));
         holds = λ entry grown. subst (λ (s : Sight). AreHeldBy s new.sight first k.facts) same k.holds;
       };
       parties_stay = stay;

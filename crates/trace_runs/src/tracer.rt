@@ -14,7 +14,6 @@ ghost use Rattle.chan_events.specs.declared.reply.Entry.{Entry};
 ghost use Rattle.trace_runs.specs.Tracing.{AreHeldBy, AreOf, HasStepped, HasTold, IsLast, IsMovedBy, IsSeen, answered_line};
 
 use crate::TraceFault;
-use machine_sight::{SightFault, seen};
 use chan_events::event::Event;
 use chan_events::reply::{Entry, Reply};
 use chan_model::fault::Fault;
@@ -23,6 +22,7 @@ use channel_config::parts::PathReturn;
 use core_lock::naming::MachineBrand;
 use core_lock::parts::Parts;
 use core_lock::supplies::CoreSupply;
+use machine_sight::{SightFault, seen};
 use memory::{Supply, push};
 use path_select::Rotating;
 use script_rows::slots::KeptAction;

@@ -55,9 +55,7 @@ fn some_name(words: &[u32], id: SubchannelId) -> bool
 fn some_has_unit(words: &[u32], setups: &[SubchannelSetup], unit: usize) -> bool
     ensures { result ≡ list_any (λ setup. (setup.unit == unit) && spec.has_subchannel words.now setup.id) setups.now }
 {
-    setups
-        .iter()
-        .any(|setup| usize::from(setup.unit) == unit && is_shown(words, setup.id))
+    setups.iter().any(|setup| usize::from(setup.unit) == unit && is_shown(words, setup.id))
 }
 
 /// Whether a subchannel is shown.
@@ -97,7 +95,12 @@ impl Selection {
     fn has_path(&self, parties: &Parties, chpid: u32) -> bool {
         names_none(self.subchannels.as_slice())
             || parties.subchannels.iter().any(|setup| {
-                self.has(setup) && setup.paths.as_slice().iter().any(|own| u32::from(*own) == chpid)
+                self.has(setup)
+                    && setup
+                        .paths
+                        .as_slice()
+                        .iter()
+                        .any(|own| u32::from(*own) == chpid)
             })
     }
 
@@ -106,7 +109,8 @@ impl Selection {
         match subject {
             Subject::All => true,
             Subject::Subchannel(word) => {
-                names_none(self.subchannels.as_slice()) || self.subchannels.iter().any(|named| *named == word)
+                names_none(self.subchannels.as_slice())
+                    || self.subchannels.iter().any(|named| *named == word)
             }
             Subject::Unit(unit) => self.has_unit(parties, unit as usize),
             Subject::ChannelPath(chpid) => self.has_path(parties, chpid),

@@ -24,9 +24,7 @@ pub enum View {
     Check,
     Talk,
     /// The lines that are due after the script, so many at most.
-    Due {
-        most: u64,
-    },
+    Due { most: u64 },
 }
 
 /// What the words ask for.
