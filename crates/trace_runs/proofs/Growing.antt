@@ -1,7 +1,6 @@
 -- One more line performed and answered.
-use Rattle.std.proofs.Common.{◌≡◌, ◌∙◌, ◌+◌, ℕ, refl, sym, ap, subst, suc, arith, List, [], ◌∷◌, ◌++◌, append-nil, append_assoc, length, map, take}
+use Rattle.std.proofs.Common.{◌≡◌, ◌∙◌, ◌+◌, ℕ, refl, sym, ap, subst, arith, List, [], ◌∷◌, ◌++◌, append-nil, append_assoc, length, map, take}
 use Rattle.std.specs.Prelude.{slice_get, Some, false}
-use Rattle.std.specs.List.{filter_map, flat_map}
 use Rattle.std.proofs.lemmas.List.Elements.{filter_map-append}
 use Rattle.channel_config.specs.Setup.{Setup}
 use Rattle.script.specs.Pieces.{lines_of}
@@ -9,7 +8,7 @@ use Rattle.script.specs.Scripts.{IsScript, ScriptContents}
 use Rattle.script.specs.declared.Line.{Line}
 use Rattle.script_rows.specs.declared.Action.{Action}
 use Rattle.script_runner.proofs.Growing.{actions-more, grown, runs-length, runs-more}
-use Rattle.script_runner.specs.Acting.{ActionOutcome, Installed, IsOpening, PerformsAction, Runs}
+use Rattle.script_runner.specs.Acting.{ActionOutcome, Installed, IsOpening, Runs}
 use Rattle.script_runner.specs.Performing.{output_of}
 use Rattle.script_text.specs.Text.{event_line}
 use Rattle.step_records.specs.Told.{AnsweredLine, answered_by, answers_of}

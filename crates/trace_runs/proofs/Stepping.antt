@@ -1,8 +1,9 @@
 -- What was told of one action.
-use Rattle.std.proofs.Common.{◌≡◌, ◌∙◌, ◌<◌, ◌+◌, ◌-◌, ℕ, Bool, true, false, refl, sym, ap, subst, arith, List, [], ◌∷◌, ◌++◌, append-nil, cond, length}
+use Rattle.std.proofs.Common.{◌≡◌, ◌∙◌, ◌+◌, ◌-◌, ℕ, Bool, true, false, refl, sym, ap, subst, arith, List, [], ◌∷◌, ◌++◌, append-nil, cond, length}
 use Rattle.std.proofs.lemmas.List.{length-append}
 use Rattle.std.specs.Prelude.{Result, Ok, Err, Some, slice_get}
 use Rattle.chan_events.specs.Events.{Event}
+use Rattle.chan_events.specs.declared.event.Event.TheVariants as event
 use Rattle.chan_events.specs.Replies.{Reply}
 use Rattle.chan_events.specs.declared.reply.Entry.{Entry}
 use Rattle.chan_model.specs.Reports.{Report}
@@ -14,10 +15,9 @@ use Rattle.script_rows.specs.declared.Action.{Action}
 use Rattle.script_rows.specs.declared.Action.TheVariants as action
 use Rattle.script_runner.specs.Acting.{ActionOutcome, Enters, Follows, Installed, PerformsAction, device_turn_of}
 use Rattle.script_text.specs.Text.{told_of as outcome_told}
-use Rattle.script_text.specs.declared.ActionResult.{ActionResult}
 use Rattle.script_text.specs.declared.ActionResult.TheVariants as outcome
 use Rattle.step_records.specs.Balance.{IsBalanced, signal_of, signals_on, waits_on}
-use Rattle.step_records.specs.Told.{AnsweredLine, Told, answers_of, facts_where, is_move, told_of}
+use Rattle.step_records.specs.Told.{Told, facts_where, is_move, told_of}
 use Rattle.step_records.specs.declared.balance.Course.{Course}
 use Rattle.step_records.specs.declared.balance.Course.TheVariants.{Onto, Met, Gone}
 use Rattle.step_records.specs.declared.parties.Parties.{Parties}
@@ -53,7 +53,7 @@ is_quiet (Ok (outcome.Reply r)) = false
 is_quiet other = true
 
 -- nothing but the room changes
-IsStill : Past → Past → Type 0
+abbrev pub IsStill : Past → Past → Type 0
 IsStill old new = (new.state ≡ old.state) × (new.history ≡ old.history)
 
 entered_quiet : (old : Past) (e : Event) (came : Result Reply Fault) (new : Past) → is_quiet (outcome_told came) ≡ true → Enters old e came new → IsStill old new
@@ -63,7 +63,7 @@ entered_quiet old e (Err f) new q h = (h.2.state, h.2.history)
 
 follows_quiet : (old : Installed) (index : ℕ) (report : Result Report Fault) (came : Result Reply Fault) (new : Installed) →
     is_quiet (outcome_told came) ≡ true → Follows old index report came new → IsStill old.past new.past
-follows_quiet old index (Ok report) came new q h = entered_quiet old.past _ came new.past q h.0
+follows_quiet old index (Ok report) came new q h = entered_quiet old.past (event.Report index report) came new.past q h.0
 follows_quiet old index (Err f) came new q h = (ap (λ (i : Installed). i.past.state) h.1, ap (λ (i : Installed). i.past.history) h.1)
 
 pub quiet_past : (old new : Installed) (a : Action) (r : ActionOutcome) → is_quiet r ≡ true → PerformsAction old a r new → IsStill old.past new.past

@@ -126,13 +126,13 @@ fn is_performed(alloc: Global, script: &[u8]) -> bool {
 #[test]
 fn a_write_has_its_facts(rt: HostRuntime) {
     let kinds =
-        b"eaeaeaeaneaeaofgeaeahseatwseathfmgcseaeatkeasdeatbseateadseatseateaksdeatfgMrhseaeafCreaeatwseathea";
+        b"eaeaeaeqaneqaeqaofgeqaeahseatwseathfmgcseqaeatkeasdeatbseateadseatseateaksdeatfgMrhseqaeqafCreqaeatwseatheqa";
     assert!(rt; has_kinds(rt.alloc(), ONE_WRITE, kinds.as_slice()));
 }
 
 #[test]
 fn a_lost_offer_has_its_facts(rt: HostRuntime) {
-    let kinds = b"eaeaeaeaneaofgeahseatwseaplfmgMrhReafCreaofgeahseafmmeatwseatheahseaeaR";
+    let kinds = b"eaeaeaeqaneqaofgeahseatwseaplfmgMrhReqafCreqaofgeahseafmmeatwseatheahseqaeaR";
     assert!(rt; has_kinds(rt.alloc(), LOST_OFFER, kinds.as_slice()));
 }
 

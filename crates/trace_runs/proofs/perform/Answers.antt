@@ -1,4 +1,4 @@
-use Rattle.std.proofs.Common.{◌∙◌}
+use Rattle.std.proofs.Common.{◌∙◌, refl}
 use Rattle.trace_runs.proofs.Growing.{traced_none, traced_to}
 use Rattle.trace_runs.proofs.perform.Goals as goal
 
