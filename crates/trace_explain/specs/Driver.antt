@@ -71,10 +71,10 @@ reported_text drawing line = report_text drawing ++ by_text line
 
 -- a fact that a program sees of a line
 abbrev pub told_text : Parties → Drawing → List ℕ → Fact → List ℕ
-told_text parties drawing line (fact.Answer outcome) = answer_text line outcome
+told_text _ _ line (fact.Answer outcome) = answer_text line outcome
 told_text parties drawing line (fact.Request subchannel subclass change) = requested_text parties drawing subchannel subclass line
-told_text parties drawing line (fact.Report change crw) = reported_text drawing line
-told_text parties drawing line _ = []
+told_text _ drawing line (fact.Report change crw) = reported_text drawing line
+told_text _ _ _ _ = []
 
 abbrev pub fact_text : Trace → Drawing → Record → List ℕ
 fact_text trace drawing told = told_text trace.parties drawing (line_of trace.text told.line) told.fact

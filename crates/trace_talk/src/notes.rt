@@ -1,18 +1,22 @@
 //! What is told of an action behind its answer.
 
 use crate::queries::put_statuses;
-use record_text::fields::put_between;
+use record_text::fields::{put_between, put_named};
 use record_text::names::kind_of;
 use record_text::put_signal;
-use record_text::told::{put_path_state, put_program, put_report, put_request_short};
+use record_text::rows::direction_name;
+use record_text::told::{
+    put_device_act, put_path_state, put_program, put_report, put_request_short,
+};
+use script_text::put_bytes;
 use step_records::parties::Parties;
-use step_records::record::{Fact, Moved, Record};
+use step_records::record::{Direction, Fact, Moved, Record};
 use streams::Sink;
 use word_names::put_status_names;
 use zbits::field;
 
-/// What is told behind an answer: programs that went on, status, requests, reports, paths and signals that were lost, parted by
-/// semicolons, and before them two blanks; nothing where there are none.
+/// What is told behind an answer: bytes that moved, what a device did, programs that went on, status, requests, reports, paths and
+/// signals that were lost, parted by semicolons, and before them two blanks; nothing where there are none.
 pub(crate) fn put_notes<S: Sink>(sink: &mut S, parties: &Parties, records: &[Record]) -> bool {
     let mut mark: &[u8] = b"  ";
     for record in records {
@@ -35,6 +39,8 @@ fn is_noted(fact: &Fact) -> bool {
                 moved: Moved::Lost | Moved::Vanished,
                 ..
             }
+            | Fact::Copy { .. }
+            | Fact::Device { .. }
             | Fact::Program { .. }
             | Fact::StatusMade { .. }
             | Fact::StatusCleared { .. }
@@ -50,6 +56,13 @@ fn put_note<S: Sink>(sink: &mut S, parties: &Parties, fact: &Fact) -> bool {
         Fact::Signal { wire, signal, .. } => {
             sink.put(b"lost: ") && put_signal(sink, signal, kind_of(parties, wire.subchannel))
         }
+        Fact::Copy {
+            direction,
+            address,
+            bytes,
+            ..
+        } => put_copy(sink, *direction, *address, bytes.as_slice()),
+        Fact::Device { act, .. } => sink.put(b"the device ") && put_device_act(sink, act),
         Fact::Program { start, stage, .. } => put_program(sink, *start, *stage),
         Fact::StatusMade { words, .. } => put_status(sink, words),
         Fact::StatusCleared { .. } => sink.put(b"status cleared"),
@@ -61,6 +74,14 @@ fn put_note<S: Sink>(sink: &mut S, parties: &Parties, fact: &Fact) -> bool {
         Fact::Report { change, crw } => put_report(sink, *crw, *change),
         _ => true,
     }
+}
+
+/// Bytes that were fetched from storage or stored there: `fetched C1C2 at 2000`.
+fn put_copy<S: Sink>(sink: &mut S, direction: Direction, address: u32, bytes: &[u8]) -> bool {
+    sink.put(direction_name(direction))
+        && sink.put(b" ")
+        && put_bytes(sink, bytes)
+        && put_named(sink, b" at ", u64::from(address))
 }
 
 /// Whether a status is pending that says nothing else by the bits of its status control.

@@ -2,6 +2,7 @@
 
 use crate::asking::Question;
 use crate::due::DueLine;
+use crate::stepping::{RANKS, rank};
 use chan_model::names::Path;
 use channel_config::parts::SubchannelSetup;
 use record_text::names::kind_of;
@@ -49,13 +50,25 @@ pub(crate) fn put_answer_to<S: Sink>(
     whole && sink.put(b"\n")
 }
 
-/// The lines that are due, each with what it takes.
+/// The lines that are due, in the order in which a turn takes them, each with what it takes.
 fn put_due<S: Sink>(sink: &mut S, looked: &Looked<'_>, due: &[DueLine]) -> bool {
     if due.is_empty() {
         return sink.put(b"nothing is due\n");
     }
+    for of in 0..RANKS {
+        if !put_due_of(sink, looked, due, of) {
+            return false;
+        }
+    }
+    true
+}
+
+/// Those of one rank.
+fn put_due_of<S: Sink>(sink: &mut S, looked: &Looked<'_>, due: &[DueLine], of: u8) -> bool {
     for line in due {
-        if !(line.put(sink) && put_taken(sink, looked, *line) && sink.put(b"\n")) {
+        if rank(*line) == of
+            && !(line.put(sink) && put_taken(sink, looked, *line) && sink.put(b"\n"))
+        {
             return false;
         }
     }

@@ -20,9 +20,12 @@ pub(crate) struct Stepping<J: MachineBrand> {
     records: Vec<Record>,
 }
 
+/// How many ranks there are.
+pub(crate) const RANKS: u8 = 4;
+
 /// The order in which lines that are due are taken: what the subsystem is to do, what units are to take, what devices are to do, what
 /// subchannels are to take.
-fn rank(line: DueLine) -> u8 {
+pub(crate) fn rank(line: DueLine) -> u8 {
     match line {
         DueLine::Choose { .. } => 0,
         DueLine::Down { .. } => 1,
@@ -114,7 +117,7 @@ impl<J: MachineBrand> Stepping<J> {
         number: u64,
         lines: &[DueLine],
     ) -> Result<Option<DueLine>, TraceFault> {
-        for of in 0..4u8 {
+        for of in 0..RANKS {
             if let Some(line) = self.perform_first(supply, number, lines, of)? {
                 return Ok(Some(line));
             }
