@@ -11,64 +11,49 @@ import sys
 from pathlib import Path
 from typing import List, Tuple
 
+from talking import Talking
+
 SCRIPT = Path(__file__).with_suffix(".chs").read_text("utf-8")
-TURNS = "turn 0 200"
+MOST = 0x200
 #: Other bytes for the write, and the place of the read cleared, so that what a second try did is seen.
 OTHERS = ["put 2FFE B1B2", "put 4000 B3B4B5", "put 5000 0000000000"]
 HEAD = "| N | After | Lost on the wire | Report | Status | At 5000 | Device | Again |\n|---|---|---|---|---|---|---|---|\n"
 
 
-class Talk:
-    """A conversation with `chtrace talk`: a line is said, and what it is answered is read before the next is said."""
+class Driven(Talking):
+    """A conversation in which the script was said. A line that is bad or refused raises: it is a fault of this file."""
 
     def __init__(self, program: str) -> None:
-        self.process = subprocess.Popen([program, "talk"], stdin=subprocess.PIPE, stdout=subprocess.PIPE, text=True)
+        super().__init__(program)
         for line in SCRIPT.splitlines():
             self.say(line)
 
-    def read(self) -> str:
-        """The next line of an answer."""
-        assert self.process.stdout is not None
-        return self.process.stdout.readline().rstrip("\n")
-
-    def say(self, line: str) -> str:
-        """The first line of the answer. A line that is bad or refused ends all: it is a fault of this file."""
-        assert self.process.stdin is not None
-        print(line, file=self.process.stdin, flush=True)
-        answer = self.read()
-        if not answer or answer.startswith(("bad line", "refused")):
-            sys.exit(f"{line}: {answer or 'no answer'}")
-        return answer
-
     def due(self) -> str:
         """The line that is due."""
-        first = self.say("? due")
-        while self.read():
-            pass
-        return first.partition("  ")[0]
+        return self.ask("due")[0].partition("  ")[0]
 
     def driver_finds(self) -> List[str]:
         """What a driver does when nothing turns any more: the three words of the status that waits, none where none does."""
-        self.say(TURNS)
-        if not self.say("tpi FF 800").startswith("cc 1"):
+        self.turn(0, MOST)
+        if self.say("tpi FF 800").code == 0:
             return []
-        return self.say("tsch 0 600").partition("  ")[0].split()[2:]
+        return self.say("tsch 0 600").printed.split()[2:]
 
     def device_has(self) -> str:
         """Five bytes of the device, by the second program of the script."""
         self.say("ssch 0 520")
         self.driver_finds()
-        return self.say("show 5100 5")
+        return self.say("show 5100 5").printed
 
 
-def lose(program: str, number: int) -> Tuple[Talk, List[str], List[str]]:
+def lose(program: str, number: int) -> Tuple[Driven, List[str], List[str]]:
     """The path is lost after so many events: what is then told, and the status that the driver finds."""
-    talk, after = Talk(program), "ssch 0 500"
+    talk, after = Driven(program), "ssch 0 500"
     for _ in range(number):
         after = talk.due()
         talk.say(after)
-    lost = talk.say("pathdown 10").partition("lost: ")[2].partition(";")[0] or "nothing"
-    return talk, [f"`{after}`", lost, talk.say("stcrw 700").split()[2]], talk.driver_finds()
+    lost = talk.say("pathdown 10").told.partition("lost: ")[2].partition(";")[0] or "nothing"
+    return talk, [f"`{after}`", lost, talk.say("stcrw 700").printed.split()[2]], talk.driver_finds()
 
 
 def is_end(status: List[str]) -> bool:
@@ -88,12 +73,12 @@ def names(program: str, status: List[str]) -> str:
 def row(program: str, number: int) -> str:
     """A row of the table. Where the status is no end, the driver starts the program again, by the path that is left."""
     talk, told, status = lose(program, number)
-    cells = [str(number), *told, names(program, status) if status else "none", talk.say("show 5000 5"), talk.device_has(), "no need"]
+    cells = [str(number), *told, names(program, status) if status else "none", talk.say("show 5000 5").printed, talk.device_has(), "no need"]
     if not is_end(status):
         talk = lose(program, number)[0]
         for line in [*OTHERS, "ssch 0 500"]:
             talk.say(line)
-        is_done = is_end(talk.driver_finds()) and talk.say("show 5000 5") == talk.device_has() == "B1B2B3B4B5"
+        is_done = is_end(talk.driver_finds()) and talk.say("show 5000 5").printed == talk.device_has() == "B1B2B3B4B5"
         cells[-1] = "done" if is_done else "NOT DONE"
     return f"| {' | '.join(cells)} |\n"
 
@@ -103,7 +88,7 @@ def main(words: List[str]) -> int:
     if len(words) not in (1, 3) or (words[0] == "--check") != (len(words) == 3):
         print(__doc__, file=sys.stderr)
         return 2
-    events = int(Talk(words[-1]).say(TURNS).split()[1], 16)
+    events = Driven(words[-1]).turn(0, MOST)
     table = HEAD + "".join(row(words[-1], number) for number in range(events + 1))
     if len(words) == 1:
         print(table, end="")

@@ -96,16 +96,14 @@ class Talking:
         return answer_of(self._get())
 
     def ask(self, question: str = "") -> List[str]:
-        """Asks `due`, `scsw S`, `unit U` or `wires S`, or for all of them by nothing: the lines of the answer."""
+        """Asks `due`, `scsw S`, `unit U` or `wires S`, or for all of them by nothing: the lines of the answer. Raises BadLine."""
         self._put(f"? {question}".rstrip())
         lines: List[str] = []
-        while True:
-            line = self._get()
-            if not line:
-                return lines
-            if line.startswith("bad line"):
-                raise BadLine(line)
+        while line := self._get():
             lines.append(line)
+        if lines and lines[0].startswith("bad line"):
+            raise BadLine(lines[0])
+        return lines
 
     def turn(self, subchannel: int, most: int) -> int:
         """Lets what is due for a subchannel and its unit happen, event by event, so many at most: how many there were."""
