@@ -452,6 +452,129 @@ typedef struct fm_told {
 /* What the last accepted event answered. Where no history is kept, an event that was refused since may have left FM_TOLD_NOTHING. */
 int32_t fm_seen(fm_machine *machine, fm_told *told);
 
+/* ---- Looks at what a subchannel and its unit have, and at the wires between them ------------------------------------------------ */
+
+/* For monitors, logs and tests. All answer 0, and write what they tell where the last argument leads; refused they write nothing. Numbers
+ * of programs, connections, commands, chunks and attentions are those of the signals (docs/REFERENCE.md). */
+
+/* There is no path, in members that tell the index of one. */
+enum { FM_NO_PATH = 8 };
+
+enum fm_phase {
+    FM_PHASE_FREE = 0,      /* nothing holds the device */
+    FM_PHASE_OFFER = 1,     /* a program is offered */
+    FM_PHASE_ON = 2,        /* a program holds the device, and is connected */
+    FM_PHASE_AWAY = 3,      /* a program holds the device, and is not connected */
+    FM_PHASE_LETTING_GO = 4,    /* the device is let go, and has not answered yet */
+    FM_PHASE_RESET = 5      /* the device is to be reset */
+};
+
+/* The hold of a subchannel: what the subsystem takes its device to be held by. */
+typedef struct fm_hold_view {
+    uint64_t number;        /* under which the program is offered or holds, or the device is reset; 0 of FM_PHASE_FREE */
+    uint64_t connection;    /* of FM_PHASE_ON: 0 that of the Accept, else that of the last Grant */
+    uint64_t seen;          /* the last connection number that was seen since the Accept */
+    uint64_t restarts;      /* how often the unit was restarted, as far as the subsystem knows */
+    uint32_t phase;         /* fm_phase */
+    uint32_t path;          /* the index of the path of FM_PHASE_OFFER, ON and LETTING_GO, else FM_NO_PATH */
+    uint32_t reset_path;    /* on which the Reset was sent, or FM_NO_PATH */
+    uint32_t first_path;    /* of the last Accept, or FM_NO_PATH */
+    uint32_t single_path;   /* 1: the program keeps to the path of its Accept; else 0 */
+} fm_hold_view;
+
+/* FM_NO_SUCH_SUBCHANNEL. */
+int32_t fm_hold(fm_machine *machine, uint32_t subchannel, fm_hold_view *hold);
+
+/* The programs of a subchannel, by the numbers of their starts: 1 is the first START SUBCHANNEL that was accepted. 0: there is none. */
+typedef struct fm_programs_view {
+    uint64_t starts;        /* how many were accepted */
+    uint64_t waiting;       /* the program that waits to be begun */
+    uint64_t holding;       /* the program that holds the device */
+    uint64_t suspended;     /* the program that is suspended */
+    uint64_t offered;       /* the program that was offered last, */
+    uint64_t drawn;         /* and the last number that was drawn, for an offer or a Reset */
+} fm_programs_view;
+
+/* FM_NO_SUCH_SUBCHANNEL. */
+int32_t fm_programs(fm_machine *machine, uint32_t subchannel, fm_programs_view *programs);
+
+enum fm_place {
+    FM_PLACE_IDLE = 0,      /* no program holds the unit */
+    FM_PLACE_ON = 1,        /* its program is on a path, */
+    FM_PLACE_ASKS = 2,      /* asks for one, */
+    FM_PLACE_AWAY = 3       /* or is at work without one */
+};
+
+enum fm_progress {
+    FM_PROGRESS_NONE = 0,   /* no command is at hand */
+    FM_PROGRESS_NEW = 1,    /* it is not begun */
+    FM_PROGRESS_WORKING = 2,
+    FM_PROGRESS_CHANNEL_ENDED = 3,  /* its channel end is sent */
+    FM_PROGRESS_ENDED = 4   /* its last End is sent */
+};
+
+/* What a unit remembers. Sides are 0 and 1. */
+typedef struct fm_unit_view {
+    uint64_t number;        /* of the program that holds it; 0 of FM_PLACE_IDLE */
+    uint64_t connection;    /* of that program: 0 that of the Accept, and one more each time that it asked for a path */
+    uint64_t command;       /* the last command of that program, which is the one at hand; 0 before its first */
+    uint64_t sequence;      /* the last chunk of the command at hand */
+    uint64_t attention;     /* the attention that was sent and is not answered, or 0 */
+    uint64_t restarts;      /* how often it was restarted */
+    uint64_t floors[2];     /* of each side the greatest number that was taken */
+    uint32_t place;         /* fm_place */
+    uint32_t side;          /* of the program */
+    uint32_t path;          /* the index of the path of FM_PLACE_ON and FM_PLACE_ASKS, else FM_NO_PATH */
+    uint32_t progress;      /* fm_progress, of the command at hand, */
+    uint32_t code;          /* its code, */
+    uint32_t command_path;  /* and the index of the path by which it came, or FM_NO_PATH */
+    uint32_t halted;        /* 1: the program is to end; else 0 */
+    uint32_t attention_side;    /* to which the attention was sent */
+    uint32_t fresh[2];      /* of each side 1: it was not reset since the last restart; else 0 */
+} fm_unit_view;
+
+/* FM_NO_SUCH_UNIT. */
+int32_t fm_unit_state(fm_machine *machine, uint32_t unit, fm_unit_view *remembered);
+
+/* How many signals wait on the wires of a subchannel, 0 to 8, by the index of the path. */
+typedef struct fm_wires_view {
+    uint32_t down[8];       /* to the unit */
+    uint32_t up[8];         /* to the subsystem */
+} fm_wires_view;
+
+/* FM_NO_SUCH_SUBCHANNEL. */
+int32_t fm_wires(fm_machine *machine, uint32_t subchannel, fm_wires_view *wires);
+
+enum fm_signal_kind {
+    /* down */
+    FM_SIGNAL_SELECT = 1, FM_SIGNAL_COMMAND = 2, FM_SIGNAL_GRANT = 3, FM_SIGNAL_REFUSE = 4, FM_SIGNAL_TOOK = 5, FM_SIGNAL_GIVE = 6,
+    FM_SIGNAL_HALT = 7, FM_SIGNAL_RELEASE = 8, FM_SIGNAL_RESET = 9, FM_SIGNAL_GOT = 10,
+    /* up */
+    FM_SIGNAL_ACCEPT = 11, FM_SIGNAL_BUSY = 12, FM_SIGNAL_LEAVE = 13, FM_SIGNAL_BACK = 14, FM_SIGNAL_DATA = 15, FM_SIGNAL_END = 16,
+    FM_SIGNAL_RELEASED = 17, FM_SIGNAL_CLEARED = 18, FM_SIGNAL_NOTICE = 19, FM_SIGNAL_ATTN = 20
+};
+
+/* A signal that waits on a wire. Members that a signal of its kind has not are 0. */
+typedef struct fm_signal_view {
+    uint64_t number;        /* of the program; of FM_SIGNAL_RESET and CLEARED of the Reset, of GOT and ATTN of the attention */
+    uint64_t connection;
+    uint64_t command;
+    uint64_t sequence;      /* of the chunk */
+    uint64_t restarts;      /* of FM_SIGNAL_RESET and NOTICE: how often the unit was restarted */
+    uint32_t kind;          /* fm_signal_kind; fm_signal_name of filuvamoth_names.h has its name */
+    uint32_t code;          /* of FM_SIGNAL_COMMAND: the command code */
+    uint32_t room;          /* of FM_SIGNAL_COMMAND and TOOK: how many bytes of a read may come */
+    uint32_t bytes;         /* of FM_SIGNAL_GIVE, and of DATA of a read: how many bytes it brings */
+    uint32_t absorbed;      /* of FM_SIGNAL_DATA of a write: how many bytes were taken */
+    uint32_t status;        /* of FM_SIGNAL_END and ATTN: fm_device_status */
+    uint32_t more;          /* of FM_SIGNAL_END: 1 where the device had more bytes, else 0 */
+} fm_signal_view;
+
+/* The signal at an index of the wire of a path, 0 for the one that fm_down, or fm_up, would take. FM_NO_SUCH_SUBCHANNEL; FM_NO_SUCH_PATH
+ * where the subchannel has no path of this index; FM_NOT_SENT where fewer signals wait. */
+int32_t fm_signal_down(fm_machine *machine, uint32_t subchannel, uint32_t path, uint32_t index, fm_signal_view *signal);
+int32_t fm_signal_up(fm_machine *machine, uint32_t subchannel, uint32_t path, uint32_t index, fm_signal_view *signal);
+
 /* ---- Events as text ------------------------------------------------------------------------------------------------------------ */
 
 /* Performs the event that the first line of a text asks for, a line of a script (docs/SCRIPTS.md): "ssch 0 500", "cpu 3 tpi 80 0". The
@@ -485,6 +608,11 @@ typedef char fm_machine_has_16_bytes[sizeof(fm_machine) == 16 ? 1 : -1];
 typedef char fm_call_has_48_bytes[sizeof(fm_call) == 48 ? 1 : -1];
 typedef char fm_answer_has_16_bytes[sizeof(fm_answer) == 16 ? 1 : -1];
 typedef char fm_told_has_48_bytes[sizeof(fm_told) == 48 ? 1 : -1];
+typedef char fm_hold_view_has_56_bytes[sizeof(fm_hold_view) == 56 ? 1 : -1];
+typedef char fm_programs_view_has_48_bytes[sizeof(fm_programs_view) == 48 ? 1 : -1];
+typedef char fm_unit_view_has_104_bytes[sizeof(fm_unit_view) == 104 ? 1 : -1];
+typedef char fm_wires_view_has_64_bytes[sizeof(fm_wires_view) == 64 ? 1 : -1];
+typedef char fm_signal_view_has_72_bytes[sizeof(fm_signal_view) == 72 ? 1 : -1];
 
 #ifdef __cplusplus
 }

@@ -42,6 +42,7 @@ import ctypes
 import ctypes.util
 import enum
 import functools
+import itertools
 import os
 import struct
 from dataclasses import dataclass
@@ -50,6 +51,9 @@ from typing import Any, Callable, Dict, Iterator, List, NamedTuple, Optional, Se
 
 #: The number of the interface for which this module is.
 ABI = 1
+
+#: What tells the index of a path is this where there is none; the module answers None instead.
+NO_PATH = 8
 
 # ---- Device status ------------------------------------------------------------------------------------------------------------------
 
@@ -147,7 +151,8 @@ _CALLS = """
     ssch_orb msch_schib stsch_schib tsch_irb tpi_code stcrw_word stcps_bytes
     turn_subchannel turn_unit choose up down work report
     unit_leave unit_ask unit_attention unit_notice unit_restart path_down path_up path_reset system_reset
-    put set_key set_prefix requests report_count schib irb serials path seen line
+    put set_key set_prefix requests report_count schib irb serials path seen
+    hold programs unit_state wires signal_down signal_up line
     history_count history_line history_reply forget
 """.split()
 
@@ -227,6 +232,73 @@ class PathState(enum.IntEnum):
     DOWN = 0
     UP = 1
     ENGAGED = 3
+
+
+class Phase(enum.IntEnum):
+    """What the subsystem takes a device to be held by."""
+
+    #: nothing
+    FREE = 0
+    #: a program is offered
+    OFFER = 1
+    #: a program holds it, and is connected
+    ON = 2
+    #: a program holds it, and is not connected
+    AWAY = 3
+    #: it is let go, and has not answered yet
+    LETTING_GO = 4
+    #: it is to be reset
+    RESET = 5
+
+
+class Place(enum.IntEnum):
+    """Where the program is that holds a unit."""
+
+    #: no program holds it
+    IDLE = 0
+    ON = 1
+    #: it asks for a path
+    ASKS = 2
+    #: it is at work without a path
+    AWAY = 3
+
+
+class Progress(enum.IntEnum):
+    """How far the command at hand is."""
+
+    #: none is at hand
+    NONE = 0
+    NEW = 1
+    WORKING = 2
+    #: its channel end is sent
+    CHANNEL_ENDED = 3
+    #: its last End is sent
+    ENDED = 4
+
+
+class SignalKind(enum.IntEnum):
+    """What a signal is: 1 to 10 go down, 11 to 20 up."""
+
+    SELECT = 1
+    COMMAND = 2
+    GRANT = 3
+    REFUSE = 4
+    TOOK = 5
+    GIVE = 6
+    HALT = 7
+    RELEASE = 8
+    RESET = 9
+    GOT = 10
+    ACCEPT = 11
+    BUSY = 12
+    LEAVE = 13
+    BACK = 14
+    DATA = 15
+    END = 16
+    RELEASED = 17
+    CLEARED = 18
+    NOTICE = 19
+    ATTN = 20
 
 
 class Due(enum.IntEnum):
@@ -341,6 +413,113 @@ class Seen:
     words: Tuple[int, int, int]
 
 
+@dataclass(frozen=True)
+class Hold:
+    """What the subsystem takes the device of a subchannel to be held by."""
+
+    #: under which the program is offered or holds, or the device is reset; 0 of FREE
+    number: int
+    #: of ON: 0 that of the Accept, else that of the last Grant
+    connection: int
+    #: the last connection number that was seen since the Accept
+    seen: int
+    #: how often the unit was restarted, as far as the subsystem knows
+    restarts: int
+    phase: Phase
+    #: the index of the path of OFFER, ON and LETTING_GO
+    path: Optional[int]
+    #: the path on which the Reset was sent, and that of the last Accept
+    reset_path: Optional[int]
+    first_path: Optional[int]
+    #: the program keeps to the path of its Accept
+    single_path: bool
+
+
+@dataclass(frozen=True)
+class Programs:
+    """The programs of a subchannel, by the numbers of their starts, from 1; 0 where there is none."""
+
+    #: how many starts were accepted
+    starts: int
+    #: the program that waits to be begun, the one that holds the device, and the one that is suspended
+    waiting: int
+    holding: int
+    suspended: int
+    #: the program that was offered last, and the last number that was drawn, for an offer or a Reset
+    offered: int
+    drawn: int
+
+
+@dataclass(frozen=True)
+class UnitState:
+    """What a unit remembers. Sides are 0 and 1."""
+
+    #: the program that holds it, and its connection; 0 of IDLE
+    number: int
+    connection: int
+    #: the last command of that program, which is the one at hand, 0 before its first; and the last chunk of it
+    command: int
+    sequence: int
+    #: the attention that was sent and is not answered, or 0
+    attention: int
+    #: how often it was restarted
+    restarts: int
+    #: of each side the greatest number that was taken
+    floors: Tuple[int, int]
+    place: Place
+    #: of the program
+    side: int
+    #: the index of the path of ON and ASKS
+    path: Optional[int]
+    #: of the command at hand: how far it is, its code, and the index of the path by which it came
+    progress: Progress
+    code: int
+    command_path: Optional[int]
+    #: the program is to end
+    halted: bool
+    #: to which the attention was sent
+    attention_side: int
+    #: of each side: it was not reset since the last restart
+    fresh: Tuple[bool, bool]
+
+
+@dataclass(frozen=True)
+class Wires:
+    """How many signals wait on the wires of a subchannel, by the index of the path."""
+
+    #: to the unit
+    down: Tuple[int, ...]
+    #: to the subsystem
+    up: Tuple[int, ...]
+
+
+@dataclass(frozen=True)
+class Signal:
+    """A signal that waits on a wire. What a signal of its kind has not is 0."""
+
+    #: of the program; of RESET and CLEARED of the Reset, of GOT and ATTN of the attention
+    number: int
+    connection: int
+    command: int
+    #: of the chunk
+    sequence: int
+    #: of RESET and NOTICE: how often the unit was restarted
+    restarts: int
+    kind: SignalKind
+    #: of COMMAND: the command code
+    code: int
+    #: of COMMAND and TOOK: how many bytes of a read may come
+    room: int
+    #: of GIVE, and of DATA of a read: how many bytes it brings
+    bytes: int
+    #: of DATA of a write: how many bytes were taken
+    absorbed: int
+    #: of END and ATTN: device status
+    status: int
+    #: of END: the device had more bytes
+    more: bool
+
+
 class Line(NamedTuple):
     """What came of an event that was written as a line: the number of its answer, and the text that ``chsim`` prints."""
 
@@ -384,6 +563,11 @@ class Device:
 _CALL = struct.Struct("=QQQIIIIII")
 _ANSWER = struct.Struct("=IIII")
 _TOLD = struct.Struct("=QQQIIIIIxxxx")
+_HOLD = struct.Struct("=QQQQIIIIIxxxx")
+_PROGRAMS = struct.Struct("=QQQQQQ")
+_UNIT = struct.Struct("=QQQQQQ2Q8I2I")
+_WIRES = struct.Struct("=8I8I")
+_SIGNAL = struct.Struct("=QQQQQIIIIIIIxxxx")
 _TEXT_ROOM = 640
 _ENTRY_ROOM = 1024
 _CHUNK = 256
@@ -422,6 +606,11 @@ def _ended(status: int, more: bool) -> bytes:
 def _absorbed(count: int) -> bytes:
     """The answer that so many bytes were taken."""
     return _ABSORBED[count] if 0 <= count <= _CHUNK else _ANSWER.pack(2, 0, count, 0)
+
+
+def _index(path: int) -> Optional[int]:
+    """The index of a path, where there is one."""
+    return None if path == NO_PATH else path
 
 
 def _lent(buffer: Any) -> Any:
@@ -896,6 +1085,54 @@ class Machine:
         self._must(self._see())
         made, cleared, number, kind, path, first, second, third = _TOLD.unpack(self._told)
         return Seen(made, cleared, number, ToldKind(kind), path, (first, second, third))
+
+    def _view(self, name: str, layout: struct.Struct, *arguments: int) -> Tuple[Any, ...]:
+        """The numbers that a look tells."""
+        room = ctypes.create_string_buffer(layout.size)
+        self._set(name, *map(_word, arguments), room)
+        return layout.unpack(room)
+
+    def hold(self, subchannel: int) -> Hold:
+        """What the subsystem takes the device of a subchannel to be held by."""
+        *numbers, phase, path, reset_path, first_path, single_path = self._view("hold", _HOLD, subchannel)
+        return Hold(*numbers, Phase(phase), _index(path), _index(reset_path), _index(first_path), single_path != 0)
+
+    def programs(self, subchannel: int) -> Programs:
+        """The programs of a subchannel, by the numbers of their starts."""
+        return Programs(*self._view("programs", _PROGRAMS, subchannel))
+
+    def unit_state(self, unit: int) -> UnitState:
+        """What a unit remembers."""
+        told = self._view("unit_state", _UNIT, unit)
+        place, side, path, progress, code, command_path, halted, attention_side = told[8:16]
+        number, connection, command, sequence, attention, restarts = told[:6]
+        return UnitState(
+            number, connection, command, sequence, attention, restarts, (told[6], told[7]), Place(place), side, _index(path),
+            Progress(progress), code, _index(command_path), halted != 0, attention_side, (told[16] != 0, told[17] != 0),
+        )
+
+    def wires(self, subchannel: int) -> Wires:
+        """How many signals wait on the wires of a subchannel."""
+        counts = self._view("wires", _WIRES, subchannel)
+        return Wires(counts[:8], counts[8:])
+
+    def signals_down(self, subchannel: int, path: int) -> List[Signal]:
+        """The signals that wait on the wire of a path to the unit: first the one that :meth:`down` takes."""
+        return list(self._signals("signal_down", subchannel, path))
+
+    def signals_up(self, subchannel: int, path: int) -> List[Signal]:
+        """The signals that wait on the wire of a path to the subsystem: first the one that :meth:`up` takes."""
+        return list(self._signals("signal_up", subchannel, path))
+
+    def _signals(self, name: str, subchannel: int, path: int) -> Iterator[Signal]:
+        for index in itertools.count():
+            try:
+                told = self._view(name, _SIGNAL, subchannel, path, index)
+            except Refused as refused:
+                if refused.number == NOT_SENT:
+                    return
+                raise
+            yield Signal(*told[:5], SignalKind(told[5]), *told[6:11], told[11] != 0)
 
     # -- events as text
 

@@ -1,4 +1,4 @@
-/* filuvamoth_names.h: what the refusals of filuvamoth.h are called. C over no call, in this header alone. */
+/* filuvamoth_names.h: what the refusals, phases and signals of filuvamoth.h are called. C over no call, in this header alone. */
 #ifndef FILUVAMOTH_NAMES_H
 #define FILUVAMOTH_NAMES_H
 
@@ -37,6 +37,48 @@ static inline const char *fm_name(int32_t number)
     case FM_LINE_WRONG_COUNT: return "the line has too few or too many words";
     case FM_LINE_BAD_WORD: return "a word of the line is not what it should be";
     default: return "no refusal";
+    }
+}
+
+/* The name of an fm_phase; "no phase" of all other numbers. */
+static inline const char *fm_phase_name(uint32_t phase)
+{
+    switch (phase) {
+    case FM_PHASE_FREE: return "free";
+    case FM_PHASE_OFFER: return "offer";
+    case FM_PHASE_ON: return "on";
+    case FM_PHASE_AWAY: return "away";
+    case FM_PHASE_LETTING_GO: return "letting go";
+    case FM_PHASE_RESET: return "reset";
+    default: return "no phase";
+    }
+}
+
+/* The name of an fm_signal_kind; "no signal" of all other numbers. */
+static inline const char *fm_signal_name(uint32_t kind)
+{
+    switch (kind) {
+    case FM_SIGNAL_SELECT: return "Select";
+    case FM_SIGNAL_COMMAND: return "Command";
+    case FM_SIGNAL_GRANT: return "Grant";
+    case FM_SIGNAL_REFUSE: return "Refuse";
+    case FM_SIGNAL_TOOK: return "Took";
+    case FM_SIGNAL_GIVE: return "Give";
+    case FM_SIGNAL_HALT: return "Halt";
+    case FM_SIGNAL_RELEASE: return "Release";
+    case FM_SIGNAL_RESET: return "Reset";
+    case FM_SIGNAL_GOT: return "Got";
+    case FM_SIGNAL_ACCEPT: return "Accept";
+    case FM_SIGNAL_BUSY: return "Busy";
+    case FM_SIGNAL_LEAVE: return "Leave";
+    case FM_SIGNAL_BACK: return "Back";
+    case FM_SIGNAL_DATA: return "Data";
+    case FM_SIGNAL_END: return "End";
+    case FM_SIGNAL_RELEASED: return "Released";
+    case FM_SIGNAL_CLEARED: return "Cleared";
+    case FM_SIGNAL_NOTICE: return "Notice";
+    case FM_SIGNAL_ATTN: return "Attn";
+    default: return "no signal";
     }
 }
 

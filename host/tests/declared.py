@@ -2,8 +2,8 @@
 
     python3 declared.py TOP HEADER MODULE [LIBRARY..]
 
-TOP has crates/filuvamoth and crates/host_machine. Names, number and kinds of parameters, results, the members of what is passed by its
-address, and the numbers of answers that the sources name are compared; of each library the names that it exports.
+TOP has crates/filuvamoth, crates/host_machine and crates/host_sight. Names, number and kinds of parameters, results, the members of what
+is passed by its address, and the numbers that the sources name are compared; of each library the names that it exports.
 """
 
 from __future__ import annotations
@@ -22,6 +22,11 @@ KINDS: Dict[str, List[str]] = {
     "&HostWork": ["const fm_call *"],
     "&HostAnswer": ["const fm_answer *"],
     "&mut HostSeen": ["fm_told *"],
+    "&mut HostHold": ["fm_hold_view *"],
+    "&mut HostPrograms": ["fm_programs_view *"],
+    "&mut HostUnit": ["fm_unit_view *"],
+    "&mut HostWires": ["fm_wires_view *"],
+    "&mut HostSignal": ["fm_signal_view *"],
     "&mut [u8]": ["uint8_t *", "size_t"],
     "&[u8]": ["const uint8_t *", "size_t"],
     "&mut [u32]": ["uint32_t *", "size_t"],
@@ -33,7 +38,16 @@ KINDS: Dict[str, List[str]] = {
     "i32": ["int32_t"],
     "Global": [],
 }
-STRUCTS = {"HostWork": "fm_call", "HostAnswer": "fm_answer", "HostSeen": "fm_told"}
+STRUCTS = {
+    "HostWork": "fm_call",
+    "HostAnswer": "fm_answer",
+    "HostSeen": "fm_told",
+    "HostHold": "fm_hold_view",
+    "HostPrograms": "fm_programs_view",
+    "HostUnit": "fm_unit_view",
+    "HostWires": "fm_wires_view",
+    "HostSignal": "fm_signal_view",
+}
 
 
 class Signature(NamedTuple):
@@ -79,10 +93,11 @@ def declared(header: str) -> Dict[str, Signature]:
 
 
 def members_in_source(source: str) -> Dict[str, List[Tuple[str, str]]]:
-    kinds = {"u64": "uint64_t", "u32": "uint32_t", "[u32; 3]": "uint32_t[3]"}
     found = {}
     for name, body in re.findall(r"#\[repr\(C\)\]\s*#\[derive\([^)]*\)\]\s*pub struct (\w+) \{(.*?)\n\}", source, re.S):
-        found[name] = [(member, kinds[kind]) for member, kind in re.findall(r"pub (\w+): ([^,]+),", body)]
+        members = re.findall(r"pub (\w+): \[?u(32|64)(?:; (\d)\])?,", body)
+        assert len(members) == body.count("pub "), f"a member of {name} is not read"
+        found[name] = [(member, f"uint{bits}_t" + (f"[{size}]" if size else "")) for member, bits, size in members]
     return found
 
 
@@ -94,8 +109,8 @@ def members_in_header(header: str) -> Dict[str, List[Tuple[str, str]]]:
 
 
 def numbers_in_source(source: str) -> Dict[str, int]:
-    """The refusals that have a name there."""
-    return {name: int(number) for name, number in re.findall(r"pub const (\w+): i32 = (-\d+);", source)}
+    """The refusals, and other numbers, that have a name there."""
+    return {name: int(number) for name, number in re.findall(r"pub const (\w+): [iu]32 = (-?\d+);", source)}
 
 
 def numbers_in_header(header: str) -> Dict[str, int]:
@@ -128,7 +143,10 @@ def enumerations_of(tree: ast.Module) -> Dict[str, Dict[str, int]]:
 
 
 #: An enumeration of the module, and what stands before its names in the header.
-ENUMERATIONS = {"Turn": "", "Choice": "", "PathState": "PATH_", "CallKind": "CALL_", "ToldKind": "TOLD_", "Due": ""}
+ENUMERATIONS = {
+    "Turn": "", "Choice": "", "PathState": "PATH_", "CallKind": "CALL_", "ToldKind": "TOLD_", "Due": "",
+    "Phase": "PHASE_", "Place": "PLACE_", "Progress": "PROGRESS_", "SignalKind": "SIGNAL_",
+}
 RENAMED = {"CALL": "CALL_DUE", "SIGNAL": "SIGNAL_DUE", "REPORT": "REPORT_DUE"}
 
 
@@ -162,7 +180,7 @@ def names_of(library: str) -> List[str]:
 
 def wrong(top: Path, header: str, tree: ast.Module, libraries: List[str]) -> Iterator[str]:
     source = code_of(sorted((top / "crates/filuvamoth/src").glob("*.rt")))
-    below = code_of(sorted((top / "crates/host_machine/src").glob("*.rt")))
+    below = "\n".join(code_of(sorted((top / f"crates/{crate}/src").glob("*.rt"))) for crate in ("host_machine", "host_sight"))
     there, said = exported(source), declared(header)
     if not there:
         yield "no export was found"

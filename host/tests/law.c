@@ -29,6 +29,26 @@ static void expect_at(int line, const char *what, int64_t got, int64_t wanted)
 
 /* ---- Every call on a handle ------------------------------------------------------------------------------------------------------ */
 
+/* What a look tells by a struct stays as it was. */
+static void try_views(fm_machine *machine, int32_t refused)
+{
+    static const struct views {
+        fm_hold_view hold;
+        fm_programs_view programs;
+        fm_unit_view unit;
+        fm_wires_view wires;
+        fm_signal_view signal;
+    } before;
+    struct views views = before;
+    EXPECT(fm_hold(machine, WORD, &views.hold), refused);
+    EXPECT(fm_programs(machine, WORD, &views.programs), refused);
+    EXPECT(fm_unit_state(machine, UNIT, &views.unit), refused);
+    EXPECT(fm_wires(machine, WORD, &views.wires), refused);
+    EXPECT(fm_signal_down(machine, WORD, 0, 0, &views.signal), refused);
+    EXPECT(fm_signal_up(machine, WORD, 0, 0, &views.signal), refused);
+    EXPECT(views.hold.path == 0 && views.programs.starts == 0 && views.unit.path == 0 && views.signal.kind == 0, 1);
+}
+
 /* Each call but fm_version, fm_new and fm_free, with good arguments: what it answers. What is told stays as it was. */
 static void try_all(fm_machine *machine, int32_t of_setting, int32_t of_event)
 {
@@ -111,6 +131,7 @@ static void try_all(fm_machine *machine, int32_t of_setting, int32_t of_event)
     EXPECT(fm_serials(machine, WORD, &made, &cleared), of_event);
     EXPECT(fm_path(machine, PATH), of_event);
     EXPECT(fm_seen(machine, &told), of_event);
+    try_views(machine, of_event);
     EXPECT(fm_line(machine, FM_LENT(&storage), line, sizeof line - 1, text, sizeof text, &written), of_event);
     /* Nothing was told, and nothing stored. */
     EXPECT(made, 77);
@@ -163,6 +184,7 @@ static void before_start(void)
     EXPECT(fm_serials(&machine, WORD, &made, &cleared), FM_AT_OTHER_STAGE);
     EXPECT(made == 1 && cleared == 2, 1);
     EXPECT(fm_seen(&machine, &told), FM_AT_OTHER_STAGE);
+    try_views(&machine, FM_AT_OTHER_STAGE);
     EXPECT(fm_free(&machine), 0);
 }
 

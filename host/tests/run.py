@@ -172,12 +172,16 @@ def play_shared(bench: Bench) -> str:
 
 
 def small_programs(bench: Bench, compiler: str, kind: str) -> str:
-    """law, recorded runs and the examples."""
+    """law, sights, recorded runs and the examples."""
     said = []
     law = bench.built(f"law-{compiler}-{kind}", [*flags(compiler, SANITIZERS[kind]), HERE / "law.c", bench.archive])
     checks = bench.run([law])
     must_be(checks, {"otherwise": 0})
     said.append(f"{number_in(checks, 'checks')} refusals and limits")
+    sights = bench.built(f"sights-{compiler}-{kind}", [*flags(compiler, SANITIZERS[kind]), HERE / "sights.c", bench.archive])
+    looks = bench.run([sights])
+    must_be(looks, {"otherwise": 0})
+    said.append(f"{number_in(looks, 'checks')} looks")
     recorded = bench.built(f"recorded-{compiler}-{kind}", [*flags(compiler, SANITIZERS[kind]), HERE / "recorded.c", bench.archive])
     for name, (lines, otherwise) in RECORDED.items():
         came = bench.run([recorded, bench.top / "crates/recorded_runs/data" / name], status=1 if otherwise else 0)
@@ -266,7 +270,9 @@ def memcheck(bench: Bench) -> str:
         must_be(came, {"scripts": bench.counts.scripts, "otherwise": 0})
     law = bench.built("law-memcheck", [*flags(compiler, ["-O1", "-g"]), HERE / "law.c", bench.archive])
     must_be(bench.run([*checked, law]), {"otherwise": 0})
-    return f"{bench.counts.scripts} scripts in 2 ways and all refusals without a bad access or a leak"
+    sights = bench.built("sights-memcheck", [*flags(compiler, ["-O1", "-g"]), HERE / "sights.c", bench.archive])
+    must_be(bench.run([*checked, sights]), {"otherwise": 0})
+    return f"{bench.counts.scripts} scripts in 2 ways, all refusals and looks without a bad access or a leak"
 
 
 def stack(bench: Bench) -> str:
@@ -332,6 +338,12 @@ def refusals_in_python(bench: Bench) -> str:
     came = bench.run([sys.executable, HERE / "law.py"], environment=in_python(bench))
     must_be(came, {"otherwise": 0})
     return f"{number_in(came, 'checks')} exceptions and devices that err"
+
+
+def sights_in_python(bench: Bench) -> str:
+    came = bench.run([sys.executable, HERE / "sights.py"], environment=in_python(bench))
+    must_be(came, {"otherwise": 0})
+    return f"{number_in(came, 'checks')} looks"
 
 
 def programs_in_python(bench: Bench) -> str:
@@ -453,6 +465,7 @@ def checks_of(bench: Bench) -> List[Tuple[str, Callable[[], str]]]:
     add("valgrind", "instructions", instructions)
     add("", "Python examples", examples_in_python)
     add("", "Python refusals", refusals_in_python)
+    add("", "Python looks", sights_in_python)
     add("mypy", "Python types", typed)
     add("nm", "declared", declared)
     add("nm", "needs", needs)

@@ -24,7 +24,7 @@ typedef struct most_of {
     size_t most;
 } most_of;
 
-static most_of calls[64];
+static most_of calls[128];
 static size_t count;
 
 /* All of the area below the caller is painted, but for the frame of this function. */
@@ -90,6 +90,23 @@ static void set_up(void)
     MEASURE(fm_enable(&machine, LENT, 0, WORD, 0, 1));
 }
 
+/* What waits on the wires. */
+static void look_at_wires(void)
+{
+    fm_wires_view wires;
+    fm_signal_view signal;
+    uint32_t path;
+    MEASURE(fm_wires(&machine, WORD, &wires));
+    for (path = 0; path < 8; path++) {
+        if (wires.down[path] != 0) {
+            MEASURE(fm_signal_down(&machine, WORD, path, 0, &signal));
+        }
+        if (wires.up[path] != 0) {
+            MEASURE(fm_signal_up(&machine, WORD, path, 0, &signal));
+        }
+    }
+}
+
 static void turns(void)
 {
     fm_call call;
@@ -98,7 +115,9 @@ static void turns(void)
     uint32_t at;
     for (at = 0; at < 20; at++) {
         MEASURE(fm_turn_subchannel(&machine, LENT, WORD));
+        look_at_wires();
         MEASURE(fm_turn_unit(&machine, LENT, UNIT));
+        look_at_wires();
         MEASURE(fm_work(&machine, UNIT, &call, bytes, sizeof bytes));
         if (call.kind != FM_CALL_NONE) {
             fm_answer answer = { FM_ENDED, FM_CHANNEL_END | FM_DEVICE_END, 0, 0 };
@@ -130,6 +149,9 @@ static void *run(void *argument)
     uint64_t made, cleared;
     size_t written;
     fm_told told;
+    fm_hold_view hold;
+    fm_programs_view programs;
+    fm_unit_view unit;
     (void)argument;
     top = (uintptr_t)__builtin_frame_address(0);
     set_up();
@@ -175,6 +197,9 @@ static void *run(void *argument)
     MEASURE(fm_irb(&machine, WORD, block, 64));
     MEASURE(fm_serials(&machine, WORD, &made, &cleared));
     MEASURE(fm_path(&machine, PATH));
+    MEASURE(fm_hold(&machine, WORD, &hold));
+    MEASURE(fm_programs(&machine, WORD, &programs));
+    MEASURE(fm_unit_state(&machine, UNIT, &unit));
     MEASURE(fm_system_reset(&machine, LENT));
     MEASURE(fm_free(&machine));
     return NULL;

@@ -1,6 +1,7 @@
 //! `chtrace`: explains a script for a channel subsystem, which it reads from standard input.
 #![tactic(auto)]
 
+mod gathered;
 mod outcome;
 mod views;
 

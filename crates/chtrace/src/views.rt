@@ -1,18 +1,19 @@
 //! The views, each from standard input to standard output.
 
+use crate::gathered::Gathered;
 use crate::outcome::Outcome;
 use line_reasons::printing::put_reasons;
 use line_reasons::whole::bad_lines;
 use memory::Allocator;
-use record_text::put_records;
-use std::io::{self, BufWriter, Printer, Write};
+use record_rows::put_records;
+use std::io::{self, Printer, Write};
 use step_records::record::{Fact, Record};
 use step_records::trace::Trace;
 use streams::{CheckedReader, CheckedWriter, NoText, Sink, Source};
 use trace_explain::{put_driver, put_explained};
 use trace_ladder::put_ladder;
 use trace_page::put_page;
-use trace_runs::trace_script;
+use trace_runs::{TraceFault, trace_script};
 use trace_states::put_states;
 use trace_talk::talk::run_talk;
 use trace_talk::whole::put_whole;
@@ -29,9 +30,19 @@ fn read_input(rt: &HostRuntime, supply: &mut Allocator) -> Result<Vec<u8>, Outco
     }
 }
 
-/// How a view ended that was written, with what is left of it written out.
-fn written<W: Write + Drop>(sink: &mut CheckedWriter<W>, whole: bool, refused: bool) -> Outcome {
-    if whole && sink.writer.flush().is_ok() {
+/// Standard output, to which much is written at once.
+fn output(rt: &HostRuntime) -> Gathered<Printer<'_, HostRuntime>> {
+    Gathered::new(io::writer(rt))
+}
+
+/// How a view ended, of which all was put or not: what is left of it is written out.
+fn written<W: Write + Drop>(sink: &mut Gathered<W>, whole: bool, refused: bool) -> Outcome {
+    ended(whole && sink.finish(), refused)
+}
+
+/// How a view ended, of which all was written or not.
+fn ended(whole: bool, refused: bool) -> Outcome {
+    if whole {
         Outcome::Done { refused }
     } else {
         Outcome::Unwritten
@@ -41,7 +52,7 @@ fn written<W: Write + Drop>(sink: &mut CheckedWriter<W>, whole: bool, refused: b
 /// Decodes the words of control blocks.
 pub fn show_words(rt: &HostRuntime, supply: &mut Allocator) -> Result<Outcome, Outcome> {
     let text = read_input(rt, supply)?;
-    let mut sink = CheckedWriter::new(buffered(rt)?);
+    let mut sink = output(rt);
     match put_words(&mut sink, text.as_slice()) {
         WordsEnd::Decoded => Ok(written(&mut sink, true, false)),
         WordsEnd::SomeBad => match written(&mut sink, true, false) {
@@ -52,24 +63,29 @@ pub fn show_words(rt: &HostRuntime, supply: &mut Allocator) -> Result<Outcome, O
     }
 }
 
-/// A writer to standard output that writes 8 KiB at once.
-fn buffered(rt: &HostRuntime) -> Result<BufWriter<Printer<'_, HostRuntime>>, Outcome> {
-    BufWriter::new(rt.alloc(), io::writer(rt)).map_err(|_| Outcome::NoMemory)
-}
-
-/// Tells what is wrong with a script on standard error: whether something is, or the view asks for that alone.
-fn check(rt: &HostRuntime, supply: &mut Allocator, text: &[u8], view: View) -> Result<(), Outcome> {
+/// Tells on standard error what is wrong with a script.
+fn tell_reasons(rt: &HostRuntime, supply: &mut Allocator, text: &[u8]) -> Result<Outcome, Outcome> {
     let found = bad_lines(rt.alloc(), supply, text).map_err(|_| Outcome::NoMemory)?;
-    if found.is_empty() && view != View::Check {
-        return Ok(());
-    }
     let error = rt.stderr();
     let mut sink = CheckedWriter::new(io::writer(&error));
     let _ = put_reasons(&mut sink, found.as_slice());
-    if found.is_empty() {
-        Err(Outcome::Done { refused: false })
+    Ok(if found.is_empty() {
+        Outcome::Done { refused: false }
     } else {
-        Err(Outcome::Bad)
+        Outcome::Bad
+    })
+}
+
+/// How the program ends where a script has no trace: of a bad one, what is wrong with it is told.
+fn untraced(
+    rt: &HostRuntime,
+    supply: &mut Allocator,
+    text: &[u8],
+    fault: TraceFault,
+) -> Result<Outcome, Outcome> {
+    match fault {
+        TraceFault::Bad { .. } => tell_reasons(rt, supply, text),
+        other => Err(Outcome::from(other)),
     }
 }
 
@@ -80,11 +96,26 @@ pub fn show_script(
     asked: &Asked,
 ) -> Result<Outcome, Outcome> {
     let text = read_input(rt, supply)?;
-    check(rt, supply, text.as_slice(), asked.view)?;
-    let mut trace = trace_script(rt.alloc(), supply, text)?;
+    if asked.view == View::Check {
+        return tell_reasons(rt, supply, text.as_slice());
+    }
+    let own = text.clone().map_err(|_| Outcome::NoMemory)?;
+    match trace_script(rt.alloc(), supply, own) {
+        Ok(trace) => show_trace(rt, supply, asked, trace),
+        Err(fault) => untraced(rt, supply, text.as_slice(), fault),
+    }
+}
+
+/// Shows a script that was performed by a view.
+fn show_trace(
+    rt: &HostRuntime,
+    supply: &mut Allocator,
+    asked: &Asked,
+    mut trace: Trace,
+) -> Result<Outcome, Outcome> {
     let refused = trace.records.iter().any(is_refusal);
     asked.selection.select(&mut trace);
-    let mut sink = CheckedWriter::new(buffered(rt)?);
+    let mut sink = output(rt);
     let whole = put_view(rt, supply, &mut sink, asked, &trace)?;
     Ok(written(&mut sink, whole, refused))
 }
@@ -120,18 +151,20 @@ fn put_view<S: Sink>(
 pub fn talk_on(rt: &HostRuntime, supply: &mut Allocator) -> Result<Outcome, Outcome> {
     let mut sink = CheckedWriter::new(io::writer(rt));
     let talked = run_talk(rt.alloc(), supply, rt.reader(), &mut sink)?;
-    match written(&mut sink, talked.whole, talked.refused) {
+    let whole = talked.whole && sink.writer.flush().is_ok();
+    match ended(whole, talked.refused) {
         Outcome::Done { .. } if talked.unread => Ok(Outcome::Unread),
         Outcome::Done { .. } if talked.bad => Ok(Outcome::Bad),
-        ended => Ok(ended),
+        other => Ok(other),
     }
 }
 
 /// Shows a script with the lines that are due after it, so many at most.
 pub fn show_due(rt: &HostRuntime, supply: &mut Allocator, most: u64) -> Result<Outcome, Outcome> {
     let text = read_input(rt, supply)?;
-    check(rt, supply, text.as_slice(), View::Due { most })?;
-    let mut sink = CheckedWriter::new(buffered(rt)?);
-    let put = put_whole(rt.alloc(), supply, text.as_slice(), most, &mut sink)?;
-    Ok(written(&mut sink, put.whole, put.refused))
+    let mut sink = output(rt);
+    match put_whole(rt.alloc(), supply, text.as_slice(), most, &mut sink) {
+        Ok(put) => Ok(written(&mut sink, put.whole, put.refused)),
+        Err(fault) => untraced(rt, supply, text.as_slice(), fault),
+    }
 }

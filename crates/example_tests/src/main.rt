@@ -14,6 +14,7 @@ use std::rt::Files;
 use std::sync::Wait;
 use std::thread::Threads;
 use std::{env, fs, io, str};
+use stored_texts::{differing_line, names_in};
 use streams::{CheckedReader, CheckedWriter};
 
 /// Whether a line of the script is a race.
@@ -76,41 +77,6 @@ impl Served {
             check.status == 0 && check.printed.as_slice() == b"script ok\n".as_slice()
         }
     }
-}
-
-/// The number of the first line, from 1, in which two texts differ.
-fn differing_line(one: &[u8], other: &[u8]) -> u64 {
-    let mut line = 1u64;
-    for (a, b) in one.iter().zip(other.iter()) {
-        if *a != *b {
-            return line;
-        }
-        if *a == b'\n' {
-            line = line.wrapping_add(1);
-        }
-    }
-    line
-}
-
-/// The names of the scripts in a folder, without their ending, in order.
-fn names_in<R: Files + AllocGlobal + Clone + Drop>(
-    rt: &R,
-    folder: &str,
-) -> io::Result<Vec<String>> {
-    let mut names = Vec::new(rt.alloc());
-    for entry in fs::read_dir(rt, folder)? {
-        add_name(rt.alloc(), &mut names, entry?.file_name())?;
-    }
-    names.sort()?;
-    Ok(names)
-}
-
-/// The name of a file, where it is a script, without its ending.
-fn add_name(alloc: Global, names: &mut Vec<String>, file: &str) -> Result<(), AllocError> {
-    if let Some(name) = file.strip_suffix(".chs") {
-        names.push(String::from_str(alloc, name)?)?;
-    }
-    Ok(())
 }
 
 /// What was found of a script.

@@ -1,5 +1,6 @@
 -- What a call does to the machine behind a handle (own).
-use Rattle.std.specs.Prelude.{◌≡◌, ℕ, ℤ, pos, nat_lt, nat_le, ◌==◌, ◌&&◌, Bool, List, [], Option, None, Some, length, if◌then◌else◌}
+use Rattle.std.specs.Prelude.{◌≡◌, ℕ, ℤ, pos, nat_lt, nat_le, ◌==◌, ◌&&◌, Bool, List, [], Option, None, Some, Result, length, if◌then◌else◌}
+use Rattle.chan_model.specs.declared.fault.Fault.{Fault}
 use Rattle.chan_events.specs.Events.{Event}
 use Rattle.chan_events.specs.Replies.{PlainReply}
 use Rattle.chan_events.specs.declared.event.Event.TheVariants as event
@@ -13,12 +14,14 @@ use Rattle.channel_subsystem.specs.declared.keeping.Keeping.TheVariants.{LastEnt
 use Rattle.io_step.specs.declared.by_value.ByValue.{ByValue}
 use Rattle.io_step.specs.declared.by_value.ByValue.TheVariants as given
 use Rattle.io_step.specs.declared.by_value.OtherByValue.{OtherByValue}
+use Rattle.machine_model.specs.State.{State}
 use Rattle.channel_config.specs.Setup.{no_setup}
 use Rattle.host_machine.specs.Answers.{bad_argument, below, no_memory}
 use Rattle.host_machine.specs.Given.{Gives, GivesOther}
 use Rattle.host_machine.specs.Histories.{Forgets}
 use Rattle.host_machine.specs.Hosts.{Performs, SetsUp, Starts, Stays}
 use Rattle.host_machine.specs.Lines as lines
+use Rattle.host_machine.specs.Looks.{ShowsFound}
 use Rattle.host_machine.specs.Settings.{set}
 use Rattle.host_machine.specs.Works.{TurnsSubchannel, TurnsUnit}
 use Rattle.host_machine.specs.declared.host_machine.HostMachine.{HostMachine}
@@ -114,6 +117,10 @@ HandsIn (Some e) old bytes keys number new after left = PerformsAt old bytes key
 -- a look: the machine stays, and shows this
 abbrev pub LooksAt : (HostMachine → ℤ → Type 0) → Type 0 → Option HostMachine → ℤ → Option HostMachine → Type 0
 LooksAt shows nothing old number new = WhereOpen (λ before answered now. (now ≡ before) × shows before answered) nothing old number new
+
+-- a look for something that may not be there
+abbrev pub FindsAt : {A : Type 0} → (State → Result A Fault) → Option HostMachine → ℤ → Option HostMachine → (told left : A) → Type 0
+FindsAt look old number new told left = LooksAt (λ machine answered. ShowsFound look machine answered told left) (left ≡ told) old number new
 
 -- what is kept is let go
 abbrev pub ForgetsAt : Option HostMachine → ℤ → Option HostMachine → Type 0

@@ -20,6 +20,7 @@ mod lines;
 mod looks;
 mod parts;
 mod setting_up;
+mod sights;
 
 use calls::{ALREADY_OPEN, CLOSED};
 use handle::Handle;
@@ -30,9 +31,9 @@ use std::alloc::Global;
 /// The number of this interface in the high half, and of the release in the low half.
 #[unsafe(no_mangle)]
 pub extern "C" fn fm_version() -> u32
-    ensures { result ≡ 0x10001 }
+    ensures { result ≡ 0x10002 }
 {
-    0x0001_0001
+    0x0001_0002
 }
 
 /// Opens a handle on a machine of which nothing is set up. It is refused where the handle is open already, and where there is no

@@ -1,9 +1,10 @@
 -- Looks at a machine, in numbers and bytes: nothing changes (own).
-use Rattle.std.specs.Prelude.{◌≡◌, ◌⊎◌, ℕ, ℤ, pos, ◌+◌, ◌==◌, ◌<◌, Bool, List, [], ◌∷◌, false, map, nat_lt, option_map, slice_index_or, Option, Some, None, if◌then◌else◌}
+use Rattle.std.specs.Prelude.{◌≡◌, ◌⊎◌, ℕ, ℤ, pos, ◌+◌, ◌==◌, ◌<◌, Bool, List, [], ◌∷◌, false, map, nat_lt, option_map, slice_index_or, Option, Some, None, Result, Ok, Err, if◌then◌else◌}
 use Rattle.zbits.specs.Bits.{bit_of}
 use Rattle.zbits.specs.Layout.{image_of, word_of}
 use Rattle.chan_model.specs.declared.answer.Answer.{Answer}
 use Rattle.chan_model.specs.declared.answer.Answer.TheVariants as answer
+use Rattle.chan_model.specs.declared.fault.Fault.{Fault}
 use Rattle.chan_model.specs.declared.fault.Fault.TheVariants as fault
 use Rattle.chan_events.specs.ReportWords.{report_word}
 use Rattle.chan_events.specs.declared.reply.Entry.{Entry}
@@ -106,3 +107,11 @@ SeesLast kept seen = (seen ≡ seen_of (last_reply kept)) ⊎ ((kept ≡ []) × 
 abbrev pub ShowsSerials : Option Serials → ℤ → (made cleared : ℕ) → (made' cleared' : ℕ) → Type 0
 ShowsSerials None number made cleared made' cleared' = (number ≡ below (fault_size fault.NoSuchSubchannel)) × ((made' ≡ made) × (cleared' ≡ cleared))
 ShowsSerials (Some serials) number made cleared made' cleared' = (number ≡ pos 0) × ((made' ≡ serials.made) × (cleared' ≡ serials.cleared))
+
+-- what is looked for is told, or why it is not there, and then what the host has stays
+abbrev pub Finds : {A : Type 0} → Result A Fault → ℤ → (old new : A) → Type 0
+Finds (Ok told) number old new = (number ≡ pos 0) × (new ≡ told)
+Finds (Err f) number old new = (number ≡ below (fault_size f)) × (new ≡ old)
+
+abbrev pub ShowsFound : {A : Type 0} → (State → Result A Fault) → HostMachine → ℤ → (old new : A) → Type 0
+ShowsFound look machine number old new = Shows (λ r answered. Finds (look r.subsystem.machine) answered old new) (new ≡ old) machine number

@@ -17,6 +17,7 @@ mod report_line;
 pub mod running;
 pub mod seen;
 pub mod setting_up;
+mod sights;
 mod told;
 pub mod turns;
 pub mod works;

@@ -10,6 +10,7 @@ use std::rt::Files;
 use std::{env, fs, io};
 use step_records::style::{Drawing, StorageLines, Style, Widths};
 use step_records::trace::Trace;
+use stored_texts::{differing_line, names_in};
 use streams::CheckedWriter;
 use trace_ladder::put_ladder;
 use trace_runs::trace_script;
@@ -39,20 +40,6 @@ fn drawn(alloc: Global, trace: &Trace, view: View) -> Option<Vec<u8>> {
         View::States => put_states(&mut sink, trace, style()),
     };
     if whole { Some(sink.writer) } else { None }
-}
-
-/// The number of the first line, from 1, in which two texts differ.
-fn differing_line(one: &[u8], other: &[u8]) -> u64 {
-    let mut line = 1u64;
-    for (a, b) in one.iter().zip(other.iter()) {
-        if *a != *b {
-            return line;
-        }
-        if *a == b'\n' {
-            line = line.wrapping_add(1);
-        }
-    }
-    line
 }
 
 /// What is printed of a text that was drawn, or was not, beside the one that is wanted.
@@ -104,27 +91,6 @@ fn tell_script<R: Files + AllocGlobal + Print>(rt: &R, path: &str) -> io::Result
     let trace = trace_script(alloc, &mut Allocator { refused: false }, script).ok();
     tell_view(rt, path, trace.as_ref(), View::Ladder)?;
     tell_view(rt, path, trace.as_ref(), View::States)
-}
-
-/// The names of the scripts in a folder, without their ending, in order.
-fn names_in<R: Files + AllocGlobal + Clone + Drop>(
-    rt: &R,
-    folder: &str,
-) -> io::Result<Vec<String>> {
-    let mut names = Vec::new(rt.alloc());
-    for entry in fs::read_dir(rt, folder)? {
-        add_name(rt.alloc(), &mut names, entry?.file_name())?;
-    }
-    names.sort()?;
-    Ok(names)
-}
-
-/// The name of a file, where it is a script, without its ending.
-fn add_name(alloc: Global, names: &mut Vec<String>, file: &str) -> Result<(), AllocError> {
-    if let Some(name) = file.strip_suffix(".chs") {
-        names.push(String::from_str(alloc, name)?)?;
-    }
-    Ok(())
 }
 
 fn main(rt: HostRuntime) -> io::Result<()> {

@@ -1,1 +1,3 @@
-pub mod Looking
+pub mod Following
+pub mod Seeing
+pub mod Wiring

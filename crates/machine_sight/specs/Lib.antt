@@ -1,1 +1,4 @@
+pub mod Balance
+pub mod Finding
 pub mod Shown
+pub mod Waiting

@@ -1,5 +1,5 @@
 //! The states of a script as a picture.
 #![tactic(auto)]
 
+pub mod colours;
 pub mod states;
-mod tracks;

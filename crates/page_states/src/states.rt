@@ -2,7 +2,7 @@
 
 ghost use Rattle.std.specs.Prelude.{◌≡◌, OnErr, true};
 
-use crate::tracks::{FIRST_BIT, HoldName, LAST_BIT, Track};
+use crate::colours::class_of;
 use chan_model::names::Path;
 use memory::{Supply, push};
 use page_layout::lanes::Party;
@@ -11,6 +11,8 @@ use page_layout::pictures::{begin_picture, put_name};
 use page_text::marks::{Attribute, Tag};
 use page_text::page::Page;
 use record_text::number::{put_hexadecimal, put_two_digits};
+use state_tracks::names::{FIRST_BIT, HOLD_NAMES, LAST_BIT, bit_name};
+use state_tracks::track::Track;
 use std::alloc::{AllocError, Global};
 use step_records::record::{Record, Way, Wire};
 
@@ -59,9 +61,14 @@ pub fn state_rows<M: Supply>(
     for unit in 0..layout.trace.parties.units.len() {
         push(supply, &mut rows, StateRow::Head(Party::Unit(unit)))?;
         for subchannel in 0..layout.trace.parties.subchannels.len() {
-            add(supply, &mut rows, layout, Track::Held(unit, subchannel))?;
+            let track = Track::HeldBy {
+                unit,
+                subchannel,
+                number: None,
+            };
+            add(supply, &mut rows, layout, track)?;
         }
-        add(supply, &mut rows, layout, Track::Command(unit))?;
+        add(supply, &mut rows, layout, Track::Command { unit })?;
         drop_bare_head(&mut rows);
     }
     Ok(rows)
@@ -84,7 +91,7 @@ fn add_bits<M: Supply>(
     ensures memory { OnErr result (M.refused supply.new ≡ true) }
 {
     for bit in FIRST_BIT..LAST_BIT + 1 {
-        add(supply, rows, layout, Track::Bit(subchannel, bit))?;
+        add(supply, rows, layout, Track::Bit { subchannel, bit })?;
     }
     Ok(())
 }
@@ -98,16 +105,10 @@ fn add_holds<M: Supply>(
 ) -> Result<(), AllocError>
     ensures memory { OnErr result (M.refused supply.new ≡ true) }
 {
-    for name in [
-        HoldName::Offered,
-        HoldName::Connected,
-        HoldName::Away,
-        HoldName::LettingGo,
-        HoldName::ToBeReset,
-    ] {
-        add(supply, rows, layout, Track::Hold(subchannel, name))?;
+    for at in HOLD_NAMES {
+        add(supply, rows, layout, Track::Hold { subchannel, at })?;
     }
-    add(supply, rows, layout, Track::Request(subchannel))
+    add(supply, rows, layout, Track::Request { subchannel })
 }
 
 /// Adds the paths of a subchannel and their wires.
@@ -123,29 +124,31 @@ fn add_paths<M: Supply>(
         return Ok(());
     };
     for (index, chpid) in setup.paths.as_slice().iter().enumerate() {
-        add(supply, rows, layout, Track::PathDown(*chpid))?;
+        add(supply, rows, layout, Track::PathDown { chpid: *chpid })?;
         if let Some(path) = Path::new(index as u32) {
-            add(
-                supply,
-                rows,
-                layout,
-                Track::Waiting(Wire {
-                    subchannel,
-                    path,
-                    way: Way::Down,
-                }),
-            )?;
-            add(
-                supply,
-                rows,
-                layout,
-                Track::Waiting(Wire {
-                    subchannel,
-                    path,
-                    way: Way::Up,
-                }),
-            )?;
+            add_wires(supply, rows, layout, subchannel, path)?;
         }
+    }
+    Ok(())
+}
+
+/// Adds the two wires of a path.
+fn add_wires<M: Supply>(
+    supply: &mut M,
+    rows: &mut Vec<StateRow>,
+    layout: &Layout<'_>,
+    subchannel: usize,
+    path: Path,
+) -> Result<(), AllocError>
+    ensures memory { OnErr result (M.refused supply.new ≡ true) }
+{
+    for way in [Way::Down, Way::Up] {
+        let wire = Wire {
+            subchannel,
+            path,
+            way,
+        };
+        add(supply, rows, layout, Track::Waiting { wire })?;
     }
     Ok(())
 }
@@ -292,15 +295,24 @@ fn put_track<M: Supply>(page: &mut Page<'_, M>, layout: &Layout<'_>, track: &Tra
     );
 }
 
-/// What tells a row apart, beside the name that it shares.
+/// The name of a bit or a state.
 fn put_track_name<M: Supply>(page: &mut Page<'_, M>, track: &Track) {
     match track {
-        Track::PathDown(chpid) => {
-            page.show(track.name());
-            page.show(b" ");
+        Track::Bit { bit, .. } => {
+            page.show(bit_name(*bit));
+        }
+        Track::Hold { at, .. } => {
+            page.show(b"hold: ");
+            page.show(at.text());
+        }
+        Track::Request { .. } => {
+            page.show(b"interruption request");
+        }
+        Track::PathDown { chpid } => {
+            page.show(b"channel path down ");
             put_two_digits(page, *chpid);
         }
-        Track::Waiting(wire) => {
+        Track::Waiting { wire } => {
             page.show(b"path ");
             put_hexadecimal(page, u64::from(wire.path.index() as u32));
             page.show(match wire.way {
@@ -308,12 +320,12 @@ fn put_track_name<M: Supply>(page: &mut Page<'_, M>, track: &Track) {
                 Way::Up => " ▲ signals wait".as_bytes(),
             });
         }
-        Track::Held(_, subchannel) => {
+        Track::HeldBy { subchannel, .. } => {
             page.show(b"held by subchannel ");
             put_hexadecimal(page, *subchannel as u64);
         }
-        _ => {
-            page.show(track.name());
+        Track::Command { .. } => {
+            page.show(b"command at hand");
         }
     }
 }
@@ -333,7 +345,7 @@ fn put_run<M: Supply>(page: &mut Page<'_, M>, layout: &Layout<'_>, track: &Track
         return;
     }
     page.begin(Tag::Rectangle);
-    page.attribute(Attribute::Class, track.class());
+    page.attribute(Attribute::Class, class_of(track));
     page.measure(Attribute::X, x_of(run.from));
     page.measure(Attribute::Y, run.y);
     page.measure(

@@ -1,5 +1,6 @@
 pub mod Numbers
 pub mod Names
+pub mod LineWords
 pub mod Holds
 pub mod SignalTexts
 pub mod SignalFields

@@ -8,7 +8,6 @@ use Rattle.chan_model.specs.declared.signal.Up.TheVariants as up
 use Rattle.chan_model.specs.declared.signal.Load.TheVariants.{Absorbed, Bytes}
 use Rattle.step_records.specs.declared.record.Signal.{Signal}
 use Rattle.step_records.specs.declared.record.Signal.TheVariants as signal
-use Rattle.record_text.specs.declared.signal_fields.Transfer.{Transfer}
 use Rattle.record_text.specs.Numbers.{hexadecimal}
 
 abbrev pub command_fields : ℕ → ℕ → ℕ → ℕ → List ℕ
@@ -20,13 +19,12 @@ took_fields t n s room =
     codes "took t=" ++ hexadecimal t ++ codes " n=" ++ hexadecimal n ++ (codes " s=" ++ hexadecimal s ++ codes " room=" ++ hexadecimal room)
 
 -- a name that ends with `t=`, and which chunk of which command it is
-abbrev pub transfer_fields : List ℕ → Transfer → List ℕ
-transfer_fields name place =
-    name ++ hexadecimal place.number ++ codes " c=" ++ hexadecimal place.connection
-    ++ (codes " n=" ++ hexadecimal place.command ++ codes " s=" ++ hexadecimal place.sequence)
+abbrev pub transfer_fields : List ℕ → ℕ → ℕ → ℕ → ℕ → List ℕ
+transfer_fields name t c n s =
+    name ++ hexadecimal t ++ codes " c=" ++ hexadecimal c ++ (codes " n=" ++ hexadecimal n ++ codes " s=" ++ hexadecimal s)
 
-abbrev pub give_fields : Transfer → List ℕ → List ℕ
-give_fields place bytes = transfer_fields (codes "give t=") place ++ (codes " bytes=" ++ flat_map byte_text bytes)
+abbrev pub give_fields : ℕ → ℕ → ℕ → ℕ → List ℕ → List ℕ
+give_fields t c n s bytes = transfer_fields (codes "give t=") t c n s ++ (codes " bytes=" ++ flat_map byte_text bytes)
 
 abbrev pub down_fields : Down → List ℕ
 down_fields (down.Select t) = codes "select t=" ++ hexadecimal t
@@ -34,7 +32,7 @@ down_fields (down.Command t n code room) = command_fields t n code room
 down_fields (down.Grant t c) = codes "grant t=" ++ hexadecimal t ++ codes " c=" ++ hexadecimal c
 down_fields (down.Refuse t c) = codes "refuse t=" ++ hexadecimal t ++ codes " c=" ++ hexadecimal c
 down_fields (down.Took t n s room) = took_fields t n s room
-down_fields (down.Give bytes t c n s) = give_fields (record { number = t; connection = c; command = n; sequence = s }) bytes
+down_fields (down.Give bytes t c n s) = give_fields t c n s bytes
 down_fields (down.Halt t) = codes "halt t=" ++ hexadecimal t
 down_fields (down.Release t) = codes "release t=" ++ hexadecimal t
 down_fields (down.Reset r b) = codes "reset r=" ++ hexadecimal r ++ codes " b=" ++ hexadecimal b
@@ -44,8 +42,8 @@ abbrev pub load_fields : Load → List ℕ
 load_fields (Absorbed count) = codes " count=" ++ hexadecimal count
 load_fields (Bytes bytes) = codes " bytes=" ++ flat_map byte_text bytes
 
-abbrev pub data_fields : Transfer → Load → List ℕ
-data_fields place load = transfer_fields (codes "data t=") place ++ load_fields load
+abbrev pub data_fields : ℕ → ℕ → ℕ → ℕ → Load → List ℕ
+data_fields t c n s load = transfer_fields (codes "data t=") t c n s ++ load_fields load
 
 abbrev pub more_field : Bool → List ℕ
 more_field more = if more then codes " more=1" else codes " more=0"
@@ -62,7 +60,7 @@ up_fields (up.Accept t) = codes "accept t=" ++ hexadecimal t
 up_fields (up.Busy t) = codes "busy t=" ++ hexadecimal t
 up_fields (up.Leave t c) = codes "leave t=" ++ hexadecimal t ++ codes " c=" ++ hexadecimal c
 up_fields (up.Back t c) = codes "back t=" ++ hexadecimal t ++ codes " c=" ++ hexadecimal c
-up_fields (up.Data load t c n s) = data_fields (record { number = t; connection = c; command = n; sequence = s }) load
+up_fields (up.Data load t c n s) = data_fields t c n s load
 up_fields (up.End t n status more) = end_fields t n status.0 more
 up_fields (up.Released t) = codes "released t=" ++ hexadecimal t
 up_fields (up.Cleared r) = codes "cleared r=" ++ hexadecimal r

@@ -36,16 +36,13 @@ pub fn put_two<S: Sink>(sink: &mut S, first: &[u8], a: u64, second: &[u8], b: u6
 
 /// A name and its number.
 #[derive(Clone, Copy)]
-pub struct Field<'a> {
-    pub name: &'a [u8],
-    pub number: u64,
-}
+pub struct Field<'a>(pub &'a [u8], pub u64);
 
 /// Two names, each with its number.
 pub fn put_pair<S: Sink>(sink: &mut S, first: Field<'_>, second: Field<'_>) -> bool
-    ensures { Puts (S.seen sink.old) (first.entry.name.now ++ hexadecimal first.entry.number ++ second.entry.name.now ++ hexadecimal second.entry.number) (S.seen sink.new) result }
+    ensures { Puts (S.seen sink.old) (first.entry.0.now ++ hexadecimal first.entry.1 ++ second.entry.0.now ++ hexadecimal second.entry.1) (S.seen sink.new) result }
 {
-    put_two(sink, first.name, first.number, second.name, second.number)
+    put_two(sink, first.0, first.1, second.0, second.1)
 }
 
 /// Three names, each with its number.
@@ -56,10 +53,10 @@ pub fn put_three<S: Sink>(
     second: Field<'_>,
     third: Field<'_>,
 ) -> bool
-    ensures { Puts (S.seen sink.old) (first.entry.name.now ++ hexadecimal first.entry.number ++ second.entry.name.now ++ hexadecimal second.entry.number
-        ++ (third.entry.name.now ++ hexadecimal third.entry.number)) (S.seen sink.new) result }
+    ensures { Puts (S.seen sink.old) (first.entry.0.now ++ hexadecimal first.entry.1 ++ second.entry.0.now ++ hexadecimal second.entry.1
+        ++ (third.entry.0.now ++ hexadecimal third.entry.1)) (S.seen sink.new) result }
 {
-    put_pair(sink, first, second) && put_named(sink, third.name, third.number)
+    put_pair(sink, first, second) && put_named(sink, third.0, third.1)
 }
 
 /// Four names, each with its number.
@@ -71,8 +68,8 @@ pub fn put_four<S: Sink>(
     third: Field<'_>,
     fourth: Field<'_>,
 ) -> bool
-    ensures { Puts (S.seen sink.old) (first.entry.name.now ++ hexadecimal first.entry.number ++ second.entry.name.now ++ hexadecimal second.entry.number
-        ++ (third.entry.name.now ++ hexadecimal third.entry.number ++ fourth.entry.name.now ++ hexadecimal fourth.entry.number)) (S.seen sink.new) result }
+    ensures { Puts (S.seen sink.old) (first.entry.0.now ++ hexadecimal first.entry.1 ++ second.entry.0.now ++ hexadecimal second.entry.1
+        ++ (third.entry.0.now ++ hexadecimal third.entry.1 ++ fourth.entry.0.now ++ hexadecimal fourth.entry.1)) (S.seen sink.new) result }
 {
     put_pair(sink, first, second) && put_pair(sink, third, fourth)
 }

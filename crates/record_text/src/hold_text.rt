@@ -44,18 +44,9 @@ fn put_on<S: Sink>(sink: &mut S, number: u64, path: Path, connection: u64) -> bo
 {
     put_three(
         sink,
-        Field {
-            name: b"on, program ",
-            number,
-        },
-        Field {
-            name: b" by path ",
-            number: path.index() as u64,
-        },
-        Field {
-            name: b", connection ",
-            number: connection,
-        },
+        Field(b"on, program ", number),
+        Field(b" by path ", path.index() as u64),
+        Field(b", connection ", connection),
     )
 }
 
@@ -125,18 +116,9 @@ fn put_on_fields<S: Sink>(sink: &mut S, number: u64, path: Path, connection: u64
 {
     put_three(
         sink,
-        Field {
-            name: b"on t=",
-            number,
-        },
-        Field {
-            name: b" path=",
-            number: path.index() as u64,
-        },
-        Field {
-            name: b" c=",
-            number: connection,
-        },
+        Field(b"on t=", number),
+        Field(b" path=", path.index() as u64),
+        Field(b" c=", connection),
     )
 }
 

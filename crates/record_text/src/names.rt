@@ -5,11 +5,12 @@ ghost use Rattle.streams.specs.Sinks.{Puts};
 ghost use Rattle.record_text.specs.Numbers.{hexadecimal};
 ghost use Rattle.record_text.specs.Names as spec;
 
+use crate::fields::put_between;
 use crate::number::{put_hexadecimal, put_two_digits};
 use channel_config::names::SubchannelId;
 use channel_config::parts::{SubchannelSetup, UnitKind};
 use step_records::parties::Parties;
-use step_records::record::{Way, Wire};
+use step_records::record::{Direction, Way, Wire};
 use streams::Sink;
 
 /// The number by which a script names a subchannel: its number, where its set is 0, else the whole subsystem-identification
@@ -66,6 +67,21 @@ pub fn kind_of(parties: &Parties, subchannel: usize) -> UnitKind {
     }
 }
 
+/// The name of a kind of units, as a script has it.
+pub fn kind_name(kind: UnitKind) -> &'static [u8] {
+    match kind {
+        UnitKind::Block => b"block",
+        UnitKind::Console => b"console",
+        UnitKind::Rejecting => b"reject",
+    }
+}
+
+/// The four hexadecimal digits of a device number.
+pub fn put_device_number<S: Sink>(sink: &mut S, device: u16) -> bool {
+    let [high, low] = device.to_be_bytes();
+    put_two_digits(sink, high) && put_two_digits(sink, low)
+}
+
 /// `down` or `up`.
 pub fn put_way<S: Sink>(sink: &mut S, way: Way) -> bool
     ensures { Puts (S.seen sink.old) (spec.way_text way) (S.seen sink.new) result }
@@ -76,37 +92,15 @@ pub fn put_way<S: Sink>(sink: &mut S, way: Way) -> bool
     }
 }
 
-/// Of whom or of what a record tells.
-#[derive(Clone, Copy)]
-pub(crate) enum Object {
-    /// Of the step as a whole.
-    Step,
-    Subchannel(usize),
-    Unit(usize),
-    /// Of the channel path of this identifier.
-    ChannelPath(u8),
-    Wire(Wire),
+/// The path of a wire, and which way it goes, after a blank: ` path 0 down`.
+pub fn put_path_and_way<S: Sink>(sink: &mut S, wire: Wire) -> bool {
+    put_between(sink, b" path ", wire.path.index() as u64, b" ") && put_way(sink, wire.way)
 }
 
-/// `sub 0`, `unit 0`, `path 10`, `sub 0 path 0 down`; nothing for the step as a whole.
-pub(crate) fn put_object<S: Sink>(sink: &mut S, parties: &Parties, object: &Object) -> bool {
-    match object {
-        Object::Step => true,
-        Object::Subchannel(subchannel) => {
-            sink.put(b"sub ") && put_subchannel(sink, parties, *subchannel)
-        }
-        Object::Unit(unit) => sink.put(b"unit ") && put_hexadecimal(sink, *unit as u64),
-        Object::ChannelPath(chpid) => sink.put(b"path ") && put_two_digits(sink, *chpid),
-        Object::Wire(wire) => put_wire(sink, parties, *wire),
+/// `fetched` or `stored`.
+pub fn direction_name(direction: Direction) -> &'static [u8] {
+    match direction {
+        Direction::Fetched => b"fetched",
+        Direction::Stored => b"stored",
     }
-}
-
-/// A wire: its subchannel, its path, and which way it goes.
-fn put_wire<S: Sink>(sink: &mut S, parties: &Parties, wire: Wire) -> bool {
-    sink.put(b"sub ")
-        && put_subchannel(sink, parties, wire.subchannel)
-        && sink.put(b" path ")
-        && put_hexadecimal(sink, wire.path.index() as u64)
-        && sink.put(b" ")
-        && put_way(sink, wire.way)
 }

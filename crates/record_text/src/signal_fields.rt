@@ -51,15 +51,7 @@ fn put_down<S: Sink>(sink: &mut S, signal: &Down) -> bool
             connection,
             command,
             sequence,
-        } => {
-            let place = Transfer {
-                number: *number,
-                connection: *connection,
-                command: *command,
-                sequence: *sequence,
-            };
-            put_give(sink, place, bytes)
-        }
+        } => put_give(sink, *number, *connection, *command, *sequence, bytes),
         Down::Halt { number } => put_named(sink, b"halt t=", *number),
         Down::Release { number } => put_named(sink, b"release t=", *number),
         Down::Reset { number, restarts } => put_two(sink, b"reset r=", *number, b" b=", *restarts),
@@ -72,22 +64,10 @@ fn put_command<S: Sink>(sink: &mut S, number: u64, command: u64, code: u8, room:
 {
     put_four(
         sink,
-        Field {
-            name: b"command t=",
-            number,
-        },
-        Field {
-            name: b" n=",
-            number: command,
-        },
-        Field {
-            name: b" code=",
-            number: u64::from(code),
-        },
-        Field {
-            name: b" room=",
-            number: u64::from(room),
-        },
+        Field(b"command t=", number),
+        Field(b" n=", command),
+        Field(b" code=", u64::from(code)),
+        Field(b" room=", u64::from(room)),
     )
 }
 
@@ -96,63 +76,45 @@ fn put_took<S: Sink>(sink: &mut S, number: u64, command: u64, sequence: u64, roo
 {
     put_four(
         sink,
-        Field {
-            name: b"took t=",
-            number,
-        },
-        Field {
-            name: b" n=",
-            number: command,
-        },
-        Field {
-            name: b" s=",
-            number: sequence,
-        },
-        Field {
-            name: b" room=",
-            number: u64::from(room),
-        },
+        Field(b"took t=", number),
+        Field(b" n=", command),
+        Field(b" s=", sequence),
+        Field(b" room=", u64::from(room)),
     )
 }
 
-/// Which chunk of which command of which program by which connection.
-#[derive(Clone, Copy)]
-struct Transfer {
+/// A name that ends with `t=`, and which chunk of which command of which program by which connection it is.
+fn put_transfer<S: Sink>(
+    sink: &mut S,
+    name: &[u8],
     number: u64,
     connection: u64,
     command: u64,
     sequence: u64,
-}
-
-/// A name, and which chunk it is.
-fn put_transfer<S: Sink>(sink: &mut S, name: &[u8], place: Transfer) -> bool
-    ensures { Puts (S.seen sink.old) (spec.transfer_fields name.now place) (S.seen sink.new) result }
+) -> bool
+    ensures { Puts (S.seen sink.old) (spec.transfer_fields name.now number connection command sequence) (S.seen sink.new) result }
 {
     put_four(
         sink,
-        Field {
-            name,
-            number: place.number,
-        },
-        Field {
-            name: b" c=",
-            number: place.connection,
-        },
-        Field {
-            name: b" n=",
-            number: place.command,
-        },
-        Field {
-            name: b" s=",
-            number: place.sequence,
-        },
+        Field(name, number),
+        Field(b" c=", connection),
+        Field(b" n=", command),
+        Field(b" s=", sequence),
     )
 }
 
-fn put_give<S: Sink>(sink: &mut S, place: Transfer, bytes: &Chunk) -> bool
-    ensures { Puts (S.seen sink.old) (spec.give_fields place bytes.now) (S.seen sink.new) result }
+fn put_give<S: Sink>(
+    sink: &mut S,
+    number: u64,
+    connection: u64,
+    command: u64,
+    sequence: u64,
+    bytes: &Chunk,
+) -> bool
+    ensures { Puts (S.seen sink.old) (spec.give_fields number connection command sequence bytes.now) (S.seen sink.new) result }
 {
-    put_transfer(sink, b"give t=", place) && put_named_bytes(sink, b" bytes=", bytes.as_slice())
+    put_transfer(sink, b"give t=", number, connection, command, sequence)
+        && put_named_bytes(sink, b" bytes=", bytes.as_slice())
 }
 
 fn put_up<S: Sink>(sink: &mut S, signal: &Up) -> bool
@@ -171,15 +133,7 @@ fn put_up<S: Sink>(sink: &mut S, signal: &Up) -> bool
             connection,
             command,
             sequence,
-        } => {
-            let place = Transfer {
-                number: *number,
-                connection: *connection,
-                command: *command,
-                sequence: *sequence,
-            };
-            put_data(sink, place, load)
-        }
+        } => put_data(sink, *number, *connection, *command, *sequence, load),
         Up::End {
             number,
             command,
@@ -199,10 +153,17 @@ fn put_up<S: Sink>(sink: &mut S, signal: &Up) -> bool
     }
 }
 
-fn put_data<S: Sink>(sink: &mut S, place: Transfer, load: &Load) -> bool
-    ensures { Puts (S.seen sink.old) (spec.data_fields place load.now) (S.seen sink.new) result }
+fn put_data<S: Sink>(
+    sink: &mut S,
+    number: u64,
+    connection: u64,
+    command: u64,
+    sequence: u64,
+    load: &Load,
+) -> bool
+    ensures { Puts (S.seen sink.old) (spec.data_fields number connection command sequence load.now) (S.seen sink.new) result }
 {
-    put_transfer(sink, b"data t=", place) && put_load(sink, load)
+    put_transfer(sink, b"data t=", number, connection, command, sequence) && put_load(sink, load)
 }
 
 /// How many bytes were absorbed, or the bytes.
@@ -233,23 +194,14 @@ fn put_status<S: Sink>(sink: &mut S, number: u64, command: u64, status: DeviceSt
 {
     put_three(
         sink,
-        Field {
-            name: b"end t=",
-            number,
-        },
-        Field {
-            name: b" n=",
-            number: command,
-        },
-        Field {
-            name: b" status=",
-            number: u64::from(status.bits()),
-        },
+        Field(b"end t=", number),
+        Field(b" n=", command),
+        Field(b" status=", u64::from(status.bits())),
     )
 }
 
 /// Whether the device had more bytes.
-pub(crate) fn put_more<S: Sink>(sink: &mut S, more: bool) -> bool
+pub fn put_more<S: Sink>(sink: &mut S, more: bool) -> bool
     ensures { Puts (S.seen sink.old) (spec.more_field more) (S.seen sink.new) result }
 {
     if more {

@@ -1,13 +1,14 @@
 //! The words of the other facts: of programs, devices, statuses, requests, reports and units.
 
-use crate::fields::{put_named, put_named_bytes};
-use crate::names::put_subchannel;
+use crate::fields::{put_between, put_named, put_named_bytes};
+use crate::names::{direction_name, put_subchannel};
 use crate::number::{put_eight_digits, put_hexadecimal, put_two_digits};
 use channel_config::parts::UnitKind;
+use script_text::put_bytes;
 use scsw_irb::crw::Crw;
 use step_records::parties::Parties;
 use step_records::record::{
-    Cause, CommandAtHand, DeviceAct, Holder, Owner, Place, ProgramStage, ReportChange,
+    Cause, CommandAtHand, DeviceAct, Direction, Holder, Owner, Place, ProgramStage, ReportChange,
     RequestChange,
 };
 use streams::Sink;
@@ -65,15 +66,6 @@ pub fn put_request<S: Sink>(sink: &mut S, subclass: u8, change: RequestChange) -
     })
 }
 
-/// The same in few words: `interruption due, ISC 5`.
-pub fn put_request_short<S: Sink>(sink: &mut S, subclass: u8, change: RequestChange) -> bool {
-    match change {
-        RequestChange::Posted => { put_named(sink, b"interruption due, ISC ", u64::from(subclass)) }
-        RequestChange::TakenOut => sink.put(b"its request is taken"),
-        RequestChange::Dropped => sink.put(b"its request is gone"),
-    }
-}
-
 /// What became of a channel report: `report 04060010 waits`.
 pub fn put_report<S: Sink>(sink: &mut S, crw: Crw, change: ReportChange) -> bool {
     sink.put(b"report ")
@@ -114,18 +106,32 @@ fn put_holder<S: Sink>(sink: &mut S, parties: &Parties, holder: &Option<Holder>)
             put_named(sink, b"held by ", holder.number)
                 && sink.put(b" of ")
                 && put_subchannel(sink, parties, holder.subchannel)
-                && put_place(sink, holder.place)
+                && (matches!(holder.place, Place::On(_))
+                    || sink.put(b", ") && put_place(sink, holder.place))
         }
     }
 }
 
-/// Where a program is that is not connected.
-fn put_place<S: Sink>(sink: &mut S, place: Place) -> bool {
+/// Where a program is: `on path 0`.
+pub fn put_place<S: Sink>(sink: &mut S, place: Place) -> bool {
     match place {
-        Place::On(_) => true,
-        Place::Asks(path) => put_named(sink, b", asks for path ", path.index() as u64),
-        Place::Away => sink.put(b", away"),
+        Place::On(path) => put_named(sink, b"on path ", path.index() as u64),
+        Place::Asks(path) => put_named(sink, b"asks for path ", path.index() as u64),
+        Place::Away => sink.put(b"away"),
     }
+}
+
+/// What a unit learned: `attention 1 was taken`.
+pub fn put_attention_taken<S: Sink>(sink: &mut S, attention: u64) -> bool {
+    put_between(sink, b"attention ", attention, b" was taken")
+}
+
+/// Bytes that were fetched from storage or stored there: `fetched C1C2 at 2000`.
+pub fn put_copy<S: Sink>(sink: &mut S, direction: Direction, address: u32, bytes: &[u8]) -> bool {
+    sink.put(direction_name(direction))
+        && sink.put(b" ")
+        && put_bytes(sink, bytes)
+        && put_named(sink, b" at ", u64::from(address))
 }
 
 /// A command that a unit has at hand: `command 1, write`.

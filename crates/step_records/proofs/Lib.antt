@@ -1,3 +1,0 @@
-mod Accounts
-mod Holding
-mod Telling

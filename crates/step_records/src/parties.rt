@@ -1,4 +1,4 @@
-//! Who there is: the subchannels and the units of a script, in the order of its configuration.
+//! Who there is: the subchannels, the units and the channel paths of a script, in the order of its configuration.
 
 ghost use Rattle.std.specs.Prelude.{◌≡◌, IfOk, OnOk, OnErr, true};
 ghost use Rattle.step_records.specs.Named as spec;
@@ -10,11 +10,12 @@ use channel_config::parts::{SubchannelSetup, UnitKind};
 use memory::{Supply, push};
 use std::alloc::{AllocError, Global};
 
-/// The subchannels and the units of a machine, by index from 0.
+/// The subchannels and the units of a machine, by index from 0, and the identifiers of its channel paths.
 #[derive(Drop)]
 pub struct Parties {
     pub subchannels: Vec<SubchannelSetup>,
     pub units: Vec<UnitKind>,
+    pub paths: Vec<u8>,
 }
 
 /// The subsystem-identification word of a subchannel (SA22-7832, chapter 13).
@@ -58,6 +59,19 @@ fn units_of<S: Supply>(
     Ok(list)
 }
 
+/// The same identifiers again.
+fn paths_of<S: Supply>(alloc: Global, supply: &mut S, chpids: &[u8]) -> Result<Vec<u8>, AllocError>
+    ensures same { IfOk result (λ list. list.items ≡ chpids.now) }
+    ensures unrefused { OnOk result (S.refused supply.new ≡ S.refused supply.old) }
+    ensures memory { OnErr result (S.refused supply.new ≡ true) }
+{
+    let mut list = Vec::new(alloc);
+    for chpid in chpids {
+        push(supply, &mut list, *chpid)?;
+    }
+    Ok(list)
+}
+
 impl Parties {
     /// Those of a configuration. There is no memory only where the supply refused a growth.
     pub fn of<S: Supply>(
@@ -67,12 +81,14 @@ impl Parties {
     ) -> Result<Parties, AllocError>
         ensures subchannels { IfOk result (λ p. p.subchannels.items ≡ config.now.subchannels) }
         ensures units { IfOk result (λ p. p.units.items ≡ config.now.units) }
+        ensures paths { IfOk result (λ p. p.paths.items ≡ config.now.paths) }
         ensures unrefused { OnOk result (S.refused supply.new ≡ S.refused supply.old) }
         ensures memory { OnErr result (S.refused supply.new ≡ true) }
     {
         Ok(Parties {
             subchannels: setups_of(alloc, supply, config.subchannels())?,
             units: units_of(alloc, supply, config.units())?,
+            paths: paths_of(alloc, supply, config.paths())?,
         })
     }
 

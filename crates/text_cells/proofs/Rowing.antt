@@ -1,6 +1,7 @@
 -- Rows: blanks that wait, and how far a row goes on.
-use Rattle.std.proofs.Common.{◌≡◌, ℕ, zero, suc, ◌+◌, ◌-◌, ◌<◌, ◌==◌, Bool, true, false, List, [], ◌∷◌, ◌++◌, length, refl, sym, ap, ◌∙◌, subst, arith, add-one, append-nil, append_assoc, if◌then◌else◌}
+use Rattle.std.proofs.Common.{◌≡◌, ℕ, zero, suc, ◌+◌, ◌-◌, ◌<◌, ◌≤◌, ◌==◌, Bool, true, false, List, [], ◌∷◌, ◌++◌, length, take, replicate, refl, sym, ap, ◌∙◌, subst, arith, add-one, append-nil, append_assoc, if◌then◌else◌}
 use Rattle.std.proofs.KnownBytes.{Appends-nil}
+use Rattle.std.proofs.lemmas.List.{replicate_more, take-replicate}
 use Rattle.std.proofs.lemmas.Bool.{eqb-true, eqb-false}
 use Rattle.streams.specs.Sinks.{Seen, TakesText, FailsIn, Puts}
 use Rattle.streams.proofs.Sinking.{takes_then, fails_then}
@@ -34,6 +35,16 @@ pub repeated_failed : (o m n : Seen) (text : List ℕ) (times all : ℕ) → tim
     → TakesText o (repeated times text) m → Puts m text n false → Puts o (repeated all text) n false
 repeated_failed o m n text times all lt t p =
     failed_later o n text (times + 1) all (all - (times + 1)) (omega (arith, lt)) (repeated_goes_on o m n text times false t p)
+
+-- a byte so many times
+repeated-byte : (byte count : ℕ) → repeated count (byte ∷ []) ≡ replicate count byte
+unfolding repeated
+repeated-byte byte zero = refl
+repeated-byte byte (suc count) = ap (λ (t : List ℕ). t ++ byte ∷ []) (repeated-byte byte count) ∙ replicate_more count byte ∙ ap (λ (n : ℕ). replicate n byte) (add-one count)
+
+pub few_blanks : (o n : Seen) (count : ℕ) (whole : Bool) → count ≤ 64 → Puts o (take count (replicate 64 32)) n whole → Puts o (repeated count (32 ∷ [])) n whole
+few_blanks o n count whole few p =
+    subst (λ (text : List ℕ). Puts o text n whole) (take-replicate count 64 32 few ∙ sym (repeated-byte 32 count)) p
 
 -- blanks before a text
 pub empty_text : (o : Seen) (blanks : ℕ) (text : List ℕ) → (length text == 0) ≡ true → Puts o (after_blanks blanks text) o true

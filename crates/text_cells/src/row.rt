@@ -7,6 +7,9 @@ ghost use Rattle.text_cells.specs.Characters as spec;
 use crate::cell::Cell;
 use streams::Sink;
 
+/// How many blanks are put at once.
+const BLANKS: usize = 64;
+
 /// A text so many times, one after the other.
 #[tactic(auto, using(crate::proofs::Rowing::repeated_none, crate::proofs::Rowing::repeated_goes_on, crate::proofs::Rowing::repeated_failed))]
 pub fn put_times<S: Sink>(sink: &mut S, text: &[u8], times: usize) -> bool
@@ -20,6 +23,21 @@ pub fn put_times<S: Sink>(sink: &mut S, text: &[u8], times: usize) -> bool
         done += 1;
     }
     true
+}
+
+/// So many blanks, at once where they are few.
+#[tactic(auto, using(crate::proofs::Rowing::repeated_none))]
+fn put_blanks<S: Sink>(sink: &mut S, count: usize) -> bool
+    ensures { Puts (S.seen sink.old) (spec.repeated count (32 ∷ [])) (S.seen sink.new) result }
+{
+    if count == 0 {
+        return true;
+    }
+    if count > BLANKS {
+        return put_times(sink, b" ", count);
+    }
+    let blanks = [b' '; BLANKS];
+    sink.put(&blanks[..count])
 }
 
 /// A row that is written from the left. Blanks wait until something follows them.
@@ -125,5 +143,5 @@ impl Row {
 fn put_after<S: Sink>(sink: &mut S, blanks: usize, text: &[u8]) -> bool
     ensures { Puts (S.seen sink.old) (spec.repeated blanks (32 ∷ []) ++ text.now) (S.seen sink.new) result }
 {
-    put_times(sink, b" ", blanks) && sink.put(text)
+    put_blanks(sink, blanks) && sink.put(text)
 }

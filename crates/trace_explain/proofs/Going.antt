@@ -1,5 +1,5 @@
 -- A text that is put piece by piece, where what is left of it is a function of what is left to do.
-use Rattle.std.proofs.Common.{◌≡◌, refl, ℕ, Bool, true, false, List, [], ◌++◌, sym, ◌∙◌, subst, append-nil}
+use Rattle.std.proofs.Common.{◌≡◌, refl, ℕ, Bool, true, false, List, [], ◌++◌, ◌∙◌, subst}
 use Rattle.std.proofs.Common.{append_assoc}
 use Rattle.std.proofs.KnownBytes.{Appends-nil}
 use Rattle.streams.specs.Sinks.{Seen, TakesText, FailsIn, Puts}
@@ -29,9 +29,6 @@ fails_in o m n piece rest whole g f =
 pub ends : (o m n : Seen) (piece whole : List ℕ) (r : Bool) → Goes o m piece whole → Puts m piece n r → Puts o whole n r
 ends o m n piece whole r g p =
     subst (λ (text : List ℕ). Puts o text n r) g.left (takes_then o m n g.text piece r g.took p)
-
-pub took_all : (o m : Seen) (whole : List ℕ) → Goes o m [] whole → TakesText o whole m
-took_all o m whole g = subst (λ (text : List ℕ). TakesText o text m) (sym (append-nil g.text) ∙ g.left) g.took
 
 pub goes_as : (o m : Seen) (rest other whole : List ℕ) → rest ≡ other → Goes o m rest whole → Goes o m other whole
 goes_as o m rest other whole e g = subst (λ (text : List ℕ). Goes o m text whole) e g

@@ -1,7 +1,6 @@
--- The rows of records and the names of bits, one more each time.
-use Rattle.std.proofs.Common.{◌≡◌, ℕ, ◌+◌, ◌<◌, ◌≤◌, Bool, true, false, List, [], ◌++◌, drop, length, get_or, map, ap, sym, subst, ◌∙◌, arith}
-use Rattle.std.proofs.Math.ListN.{get_or-map}
-use Rattle.std.proofs.lemmas.List.{at_drop_more, at_drop_all, length-map}
+-- The rows of records, one more each time.
+use Rattle.std.proofs.Common.{◌≡◌, ℕ, ◌+◌, ◌<◌, ◌≤◌, Bool, true, false, List, ◌++◌, drop, length, get_or, ap, sym, subst, ◌∙◌, arith}
+use Rattle.std.proofs.lemmas.List.{at_drop_more, at_drop_all}
 use Rattle.streams.specs.Sinks.{Seen, TakesText, FailsIn, Puts}
 use Rattle.step_records.specs.declared.record.Record.{Record}
 use Rattle.step_records.specs.declared.style.Drawing.{Drawing}
@@ -9,9 +8,7 @@ use Rattle.step_records.specs.declared.trace.Trace.{Trace}
 use Rattle.trace_explain.specs.declared.driver.Unseen.{Unseen}
 use Rattle.trace_explain.specs.Visible.{is_visible}
 use Rattle.trace_explain.specs.Driver.{rows_text, row_text, after, is_event, gap_text, count}
-use Rattle.trace_explain.specs.declared.bit.Bit.{Bit}
-use Rattle.trace_explain.specs.SeenWords.{NamedBit, named_bit, names_text, bit_text, is_begun}
-use Rattle.trace_explain.proofs.Going.{Goes, goes_on, goes_as, fails_in, ends, took_all}
+use Rattle.trace_explain.proofs.Going.{Goes, goes_on, goes_as, fails_in, ends}
 
 -- what is due of the records from the one of an index on
 rows_more : (trace : Trace) (drawing : Drawing) (unseen : Unseen) (all : List Record) (i : ℕ) (d : Record) → i < length all → d ≡ get_or all i d
@@ -54,35 +51,3 @@ few_after unseen false false i le = omega (arith, le)
 
 pub few_more : (unseen next : Unseen) (event seen : Bool) (i : ℕ) → next ≡ after unseen event seen → count unseen ≤ i → count next ≤ i + 1
 few_more unseen next event seen i e le = subst (λ (u : Unseen). count u ≤ i + 1) (sym e) (few_after unseen event seen i le)
-
--- what is due of the names from the one of an index on
-names_more : (word : ℕ) (some : Bool) (all : List Bit) (i : ℕ) (d : Bit) → i < length all → d ≡ get_or all i d
-    → names_text word some (drop i (map named_bit all))
-    ≡ bit_text word some (named_bit d) ++ names_text word (is_begun word some (named_bit d)) (drop (i + 1) (map named_bit all))
-unfolding names_text
-names_more word some all i d lt is =
-    at_drop_more (names_text word some) (map named_bit all) i (named_bit d) (omega (arith, lt, length-map all named_bit))
-    ∙ ap (λ (named : NamedBit). bit_text word some named ++ names_text word (is_begun word some named) (drop (i + 1) (map named_bit all)))
-    (get_or-map named_bit all i d ∙ ap named_bit (sym is))
-
-names_end : (word : ℕ) (some : Bool) (all : List Bit) (i : ℕ) → length all ≤ i → names_text word some (drop i (map named_bit all)) ≡ []
-unfolding names_text
-names_end word some all i le = at_drop_all (names_text word some) (map named_bit all) i (omega (arith, le, length-map all named_bit))
-
-pub name_took : (o m n : Seen) (word : ℕ) (some next : Bool) (all : List Bit) (i : ℕ) (d : Bit) (whole : List ℕ)
-    → i < length all → d ≡ get_or all i d → next ≡ is_begun word some (named_bit d)
-    → Goes o m (names_text word some (drop i (map named_bit all))) whole → TakesText m (bit_text word some (named_bit d)) n
-    → Goes o n (names_text word next (drop (i + 1) (map named_bit all))) whole
-name_took o m n word some next all i d whole lt is e g t =
-    goes_as o n _ _ whole (ap (λ (b : Bool). names_text word b (drop (i + 1) (map named_bit all))) (sym e))
-    (goes_on o m n _ _ whole (goes_as o m _ _ whole (names_more word some all i d lt is) g) t)
-
-pub name_failed : (o m n : Seen) (word : ℕ) (some : Bool) (all : List Bit) (i : ℕ) (d : Bit) (whole : List ℕ)
-    → i < length all → d ≡ get_or all i d
-    → Goes o m (names_text word some (drop i (map named_bit all))) whole → FailsIn m (bit_text word some (named_bit d)) n → Puts o whole n false
-name_failed o m n word some all i d whole lt is g f =
-    fails_in o m n _ _ whole (goes_as o m _ _ whole (names_more word some all i d lt is) g) f
-
-pub names_ended : (o m : Seen) (word : ℕ) (some : Bool) (all : List Bit) (i : ℕ) (whole : List ℕ) → length all ≤ i
-    → Goes o m (names_text word some (drop i (map named_bit all))) whole → TakesText o whole m
-names_ended o m word some all i whole le g = took_all o m whole (goes_as o m _ _ whole (names_end word some all i le) g)

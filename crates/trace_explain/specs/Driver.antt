@@ -13,8 +13,8 @@ use Rattle.step_records.specs.Lines.{line_of}
 use Rattle.record_text.specs.Numbers.{hexadecimal}
 use Rattle.record_text.specs.Names.{subchannel_text}
 use Rattle.trace_explain.specs.declared.driver.Unseen.{Unseen}
-use Rattle.trace_explain.specs.declared.instruction.Instruction.{Instruction}
-use Rattle.trace_explain.specs.Instructions.{instruction_of}
+use Rattle.trace_explain.specs.declared.instruction.CpuAct.{CpuAct}
+use Rattle.trace_explain.specs.Instructions.{act_of}
 use Rattle.trace_explain.specs.Seen.{outcome_seen}
 use Rattle.trace_explain.specs.Visible.{is_visible}
 
@@ -39,16 +39,16 @@ padded_text line = line ++ replicate (14 - length line + 1) 32
 abbrev pub by_text : List ℕ → List ℕ
 by_text line = codes "   (by: " ++ line ++ codes ")\n"
 
--- an instruction, and what it answered
-abbrev pub executed_text : List ℕ → Instruction → Result ActionResult Fault → List ℕ
-executed_text line instruction outcome = padded_text line ++ (outcome_seen instruction outcome ++ 10 ∷ [])
+-- what was done by a line, and what it answered
+abbrev pub acted_text : List ℕ → CpuAct → Result ActionResult Fault → List ℕ
+acted_text line act outcome = padded_text line ++ (outcome_seen act outcome ++ 10 ∷ [])
 
-abbrev pub answered_text : List ℕ → Option Instruction → Result ActionResult Fault → List ℕ
+abbrev pub answered_text : List ℕ → Option CpuAct → Result ActionResult Fault → List ℕ
 answered_text line None outcome = []
-answered_text line (Some instruction) outcome = executed_text line instruction outcome
+answered_text line (Some act) outcome = acted_text line act outcome
 
 abbrev pub answer_text : List ℕ → Result ActionResult Fault → List ℕ
-answer_text line outcome = answered_text line (instruction_of line) outcome
+answer_text line outcome = answered_text line (act_of line) outcome
 
 -- a request that was posted
 abbrev pub requesting_text : Parties → Drawing → ℕ → List ℕ

@@ -1,4 +1,4 @@
--- What an instruction answered, in few words.
+-- What an act answered, in few words.
 use Rattle.std.specs.Prelude.{ℕ, Bool, List, [], ◌++◌, codes, map, slice_index_or, Option, None, Some, Result, Ok, Err, if◌then◌else◌}
 use Rattle.zbits.specs.Layout.{word_of}
 use Rattle.scsw_irb.specs.declared.scsw.Scsw.{Scsw}
@@ -19,28 +19,29 @@ use Rattle.script_text.specs.declared.ActionResult.TheVariants as told
 use Rattle.script_text.specs.Text.{byte_text, code_text, reply_text, outcome_text}
 use Rattle.record_text.specs.Numbers.{hexadecimal, eight_digits}
 use Rattle.record_text.specs.Names.{subchannel_name}
-use Rattle.trace_explain.specs.declared.instruction.Instruction.{Instruction}
-use Rattle.trace_explain.specs.declared.instruction.Instruction.TheVariants.{Start, Resume, Cancel}
+use Rattle.word_names.specs.declared.instruction.Instruction.TheVariants.{Start, Resume, Cancel}
+use Rattle.trace_explain.specs.declared.instruction.CpuAct.{CpuAct}
+use Rattle.trace_explain.specs.declared.instruction.CpuAct.TheVariants.{Executes}
 use Rattle.trace_explain.specs.SeenWords.{scsw_seen}
 
--- what the condition code of an instruction that shows no words says (chapter 14)
-abbrev pub zero_meaning : Instruction → List ℕ
-zero_meaning Start = codes "  accepted"
+-- what the condition code of an act that shows no words says (chapter 14)
+abbrev pub zero_meaning : CpuAct → List ℕ
+zero_meaning (Executes Start) = codes "  accepted"
 zero_meaning _ = []
 
-abbrev pub two_meaning : Instruction → List ℕ
-two_meaning Resume = codes "  not applicable"
-two_meaning Cancel = codes "  not applicable"
+abbrev pub two_meaning : CpuAct → List ℕ
+two_meaning (Executes Resume) = codes "  not applicable"
+two_meaning (Executes Cancel) = codes "  not applicable"
 two_meaning _ = codes "  busy"
 
-abbrev pub meaning : Instruction → ConditionCode → List ℕ
-meaning instruction Zero = zero_meaning instruction
-meaning instruction One = codes "  status pending"
-meaning instruction Two = two_meaning instruction
-meaning instruction Three = codes "  not operational"
+abbrev pub meaning : CpuAct → ConditionCode → List ℕ
+meaning act Zero = zero_meaning act
+meaning act One = codes "  status pending"
+meaning act Two = two_meaning act
+meaning act Three = codes "  not operational"
 
-abbrev pub meant_text : Instruction → ConditionCode → List ℕ
-meant_text instruction code = code_text code ++ meaning instruction code
+abbrev pub meant_text : CpuAct → ConditionCode → List ℕ
+meant_text act code = code_text code ++ meaning act code
 
 -- the condition code, and the status word that was stored
 abbrev pub words_text : List ℕ → List ℕ
@@ -90,16 +91,16 @@ uncoded_reply given = codes "      " ++ reply_text given
 abbrev pub uncoded_text : Result ActionResult Fault → List ℕ
 uncoded_text outcome = codes "      " ++ outcome_text outcome
 
-abbrev pub reply_seen : Instruction → Reply → List ℕ
-reply_seen instruction (reply.Code answer) = meant_text instruction (code_of answer)
-reply_seen instruction (reply.PathReset code) = meant_text instruction code
-reply_seen instruction (reply.Status answer scsw) = status_seen answer scsw
-reply_seen instruction (reply.Interruption found) = interruption_seen found
-reply_seen instruction (reply.ChannelReport found) = report_seen found
-reply_seen instruction other = uncoded_reply other
+abbrev pub reply_seen : CpuAct → Reply → List ℕ
+reply_seen act (reply.Code answer) = meant_text act (code_of answer)
+reply_seen act (reply.PathReset code) = meant_text act code
+reply_seen act (reply.Status answer scsw) = status_seen answer scsw
+reply_seen act (reply.Interruption found) = interruption_seen found
+reply_seen act (reply.ChannelReport found) = report_seen found
+reply_seen act other = uncoded_reply other
 
-unfoldable pub outcome_seen : Instruction → Result ActionResult Fault → List ℕ
-outcome_seen instruction (Ok (told.Reply it)) = reply_seen instruction it
-outcome_seen instruction (Ok (told.Serials it)) = uncoded_text (Ok (told.Serials it))
-outcome_seen instruction (Ok (told.Race it)) = uncoded_text (Ok (told.Race it))
-outcome_seen instruction (Err fault) = uncoded_text (Err fault)
+unfoldable pub outcome_seen : CpuAct → Result ActionResult Fault → List ℕ
+outcome_seen act (Ok (told.Reply it)) = reply_seen act it
+outcome_seen act (Ok (told.Serials it)) = uncoded_text (Ok (told.Serials it))
+outcome_seen act (Ok (told.Race it)) = uncoded_text (Ok (told.Race it))
+outcome_seen act (Err fault) = uncoded_text (Err fault)

@@ -7,11 +7,11 @@ use Rattle.step_records.specs.declared.record.Fact.TheVariants as fact
 use Rattle.step_records.specs.declared.record.RequestChange.TheVariants.{Posted}
 use Rattle.step_records.specs.declared.record.ReportChange.TheVariants.{Waits}
 use Rattle.step_records.specs.Lines.{line_of}
-use Rattle.trace_explain.specs.Instructions.{instruction_of}
+use Rattle.trace_explain.specs.Instructions.{act_of}
 
 -- the answer to an instruction, a request for an interruption that is posted, and a channel report that waits
 abbrev pub is_seen : List ℕ → Fact → Bool
-is_seen line (fact.Answer outcome) = is_some (instruction_of line)
+is_seen line (fact.Answer outcome) = is_some (act_of line)
 is_seen line (fact.Request subchannel subclass Posted) = true
 is_seen line (fact.Report Waits crw) = true
 is_seen line _ = false

@@ -1,10 +1,10 @@
 //! What a line came to, with what it means and each word that was stored.
 
-use crate::codes::{code_of, put_code_note};
+use crate::codes::put_code_note;
 use crate::scsw::{Indent, put_indented_word, put_scsw};
-use crate::seen_answer::put_code;
 use chan_events::reply::Reply;
 use chan_model::fault::Fault;
+use record_text::codes::{code_name, code_of};
 use record_text::number::put_eight_digits;
 use script_text::{ActionResult, put_outcome};
 use scsw_irb::code::IntCode;
@@ -43,7 +43,7 @@ fn put_reply<S: Sink>(sink: &mut S, line: &[u8], found: Option<Found>, reply: &R
 /// The condition code of a reply, with what it says; of a reply that tells none, the words of a script's run.
 fn put_meant<S: Sink>(sink: &mut S, line: &[u8], found: Option<Found>, reply: &Reply) -> bool {
     let told = match code_of(reply) {
-        Some(code) => put_code(sink, code) && put_code_note(sink, line, found, reply),
+        Some(code) => sink.put(code_name(code)) && put_code_note(sink, line, found, reply),
         None => script_text::put_reply(sink, reply),
     };
     told && sink.put(b"\n")

@@ -6,7 +6,7 @@ ghost use Rattle.trace_explain.specs.Driver as spec;
 ghost use Rattle.trace_explain.specs.Seen.{outcome_seen};
 ghost use Rattle.trace_explain.specs.Visible as visible_spec;
 
-use crate::instruction::{Instruction, instruction_of};
+use crate::instruction::{CpuAct, act_of};
 use crate::seen_answer::put_seen;
 use crate::visible::is_visible;
 use chan_model::fault::Fault;
@@ -168,33 +168,29 @@ fn put_by<S: Sink>(sink: &mut S, line: &[u8]) -> bool
 fn put_answer<S: Sink>(sink: &mut S, line: &[u8], outcome: &Result<ActionResult, Fault>) -> bool
     ensures { Puts (S.seen sink.old) (spec.answer_text line.now outcome.now) (S.seen sink.new) result }
 {
-    match instruction_of(line) {
+    match act_of(line) {
         None => true,
-        Some(instruction) => put_executed(sink, line, instruction, outcome),
+        Some(act) => put_acted(sink, line, act, outcome),
     }
 }
 
 #[tactic(auto, using(streams::proofs::Sinking::takes_then, streams::proofs::Sinking::fails_then))]
-fn put_executed<S: Sink>(
+fn put_acted<S: Sink>(
     sink: &mut S,
     line: &[u8],
-    instruction: Instruction,
+    act: CpuAct,
     outcome: &Result<ActionResult, Fault>,
 ) -> bool
-    ensures { Puts (S.seen sink.old) (spec.executed_text line.now instruction outcome.now) (S.seen sink.new) result }
+    ensures { Puts (S.seen sink.old) (spec.acted_text line.now act outcome.now) (S.seen sink.new) result }
 {
-    put_padded(sink, line) && put_ended(sink, instruction, outcome)
+    put_padded(sink, line) && put_ended(sink, act, outcome)
 }
 
 #[tactic(auto, using(streams::proofs::Sinking::takes_then, streams::proofs::Sinking::fails_then))]
-fn put_ended<S: Sink>(
-    sink: &mut S,
-    instruction: Instruction,
-    outcome: &Result<ActionResult, Fault>,
-) -> bool
-    ensures { Puts (S.seen sink.old) (outcome_seen instruction outcome.now ++ 10 ∷ []) (S.seen sink.new) result }
+fn put_ended<S: Sink>(sink: &mut S, act: CpuAct, outcome: &Result<ActionResult, Fault>) -> bool
+    ensures { Puts (S.seen sink.old) (outcome_seen act outcome.now ++ 10 ∷ []) (S.seen sink.new) result }
 {
-    put_seen(sink, instruction, outcome) && sink.put(b"\n")
+    put_seen(sink, act, outcome) && sink.put(b"\n")
 }
 
 /// A request that was posted.

@@ -45,13 +45,15 @@ fn put_record_explained<S: Sink>(
     found: Option<Found>,
     drawing: Drawing,
 ) -> bool {
-    let line = trace.text.line(record.line);
     match &record.fact {
-        Fact::Event => {
-            put_decimal(sink, record.line) && sink.put(b" ") && sink.put(line) && sink.put(b"\n")
-        }
+        Fact::Event => put_event(sink, trace, record.line),
         Fact::Found { .. } => true,
-        Fact::Answer(outcome) => put_answer(sink, line, found, outcome),
+        Fact::Answer(outcome) => { put_answer(sink, trace.text.line(record.line), found, outcome) }
         fact => put_fact(sink, &trace.parties, drawing, fact),
     }
+}
+
+/// A line of the script, behind its number.
+fn put_event<S: Sink>(sink: &mut S, trace: &Trace, line: u64) -> bool {
+    put_decimal(sink, line) && sink.put(b" ") && sink.put(trace.text.line(line)) && sink.put(b"\n")
 }

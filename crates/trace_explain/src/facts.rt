@@ -7,15 +7,16 @@ use ccw_codec::{Ccw, Format};
 use chan_model::hold_state::HoldState;
 use channel_config::parts::UnitKind;
 use orb_block::Orb;
+use record_text::block_words::{ccw_flags, orb_words};
 use record_text::fields::{put_between, put_named};
 use record_text::hold_text::put_hold;
 use record_text::names::{kind_of, put_subchannel};
-use record_text::rows::{ccw_flags, direction_name, orb_words};
 use record_text::signal::put_signal;
 use record_text::told::{
-    put_byte_count, put_cause, put_enabled, put_path_state, put_program, put_report, put_request,
+    put_byte_count, put_cause, put_copy, put_enabled, put_path_state, put_program, put_report,
+    put_request,
 };
-use script_text::{put_bytes, put_words};
+use script_text::put_words;
 use scsw_irb::crw::Crw;
 use step_records::parties::Parties;
 use step_records::record::{Cause, Fact, Moved, ReportChange, Signal, Way, Wire};
@@ -62,7 +63,16 @@ pub(crate) fn put_fact<S: Sink>(
         | Fact::Device { .. } => put_unit_fact(sink, parties, drawing, fact),
         Fact::Orb { orb, .. } => put_orb_fact(sink, orb),
         Fact::Ccw { .. } => put_ccw(sink, parties, fact),
-        Fact::Copy { .. } => put_copy(sink, fact),
+        Fact::Copy {
+            direction,
+            address,
+            bytes,
+            ..
+        } => {
+            sink.put(b"    ")
+                && put_copy(sink, *direction, *address, bytes.as_slice())
+                && sink.put(b"\n")
+        }
         other => put_subchannel_fact(sink, parties, drawing, other),
     }
 }
@@ -167,26 +177,6 @@ fn put_name<S: Sink>(sink: &mut S, kind: UnitKind, goes_on: bool, command: u8) -
         sink.put(b"goes on")
     } else {
         put_command_name(sink, kind, command)
-    }
-}
-
-/// Bytes that moved.
-fn put_copy<S: Sink>(sink: &mut S, fact: &Fact) -> bool {
-    match fact {
-        Fact::Copy {
-            direction,
-            address,
-            bytes,
-            ..
-        } => {
-            sink.put(b"    ")
-                && sink.put(direction_name(*direction))
-                && sink.put(b" ")
-                && put_bytes(sink, bytes.as_slice())
-                && put_named(sink, b" at ", u64::from(*address))
-                && sink.put(b"\n")
-        }
-        _ => true,
     }
 }
 

@@ -3,13 +3,11 @@
 #![tactic(auto)]
 
 mod answer;
-mod bit;
 pub mod codes;
 pub mod driver;
 pub mod explain;
 mod facts;
 pub mod instruction;
-mod operand;
 mod scsw;
 mod seen_answer;
 mod seen_words;

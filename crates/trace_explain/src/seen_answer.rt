@@ -1,4 +1,4 @@
-//! What an instruction answered, in the few words of the view `driver`.
+//! What an act answered, in the few words of the view `driver`.
 
 ghost use Rattle.std.specs.Prelude.{◌≡◌, ◌++◌, codes};
 ghost use Rattle.script_text.specs.Text.{code_text, answer_text};
@@ -7,12 +7,13 @@ ghost use Rattle.record_text.specs.Numbers.{hexadecimal, eight_digits};
 ghost use Rattle.streams.specs.Sinks.{Puts};
 ghost use Rattle.trace_explain.specs.Seen as spec;
 
-use crate::instruction::Instruction;
+use crate::instruction::CpuAct;
 use crate::seen_words::put_scsw_seen;
 use chan_events::reply::Reply;
 use chan_model::answer::{Answer, ConditionCode};
 use chan_model::fault::Fault;
 use channel_config::names::SubchannelId;
+use record_text::codes::code_name;
 use record_text::fields::put_named;
 use record_text::names::put_subchannel_id;
 use record_text::number::{put_eight_digits, put_two_digits};
@@ -21,57 +22,46 @@ use scsw_irb::code::IntCode;
 use scsw_irb::crw::{Crw, PathReport};
 use scsw_irb::scsw::Scsw;
 use streams::{Sink, put_both};
+use word_names::Instruction;
 
-/// A condition code.
-pub(crate) fn put_code<S: Sink>(sink: &mut S, code: ConditionCode) -> bool
-    ensures { Puts (S.seen sink.old) (code_text code) (S.seen sink.new) result }
+/// What a condition code of an act that shows no words says.
+fn meaning(act: CpuAct, code: ConditionCode) -> &'static [u8]
+    ensures { result.now ≡ spec.meaning act code }
 {
     match code {
-        ConditionCode::Zero => sink.put(b"cc 0"),
-        ConditionCode::One => sink.put(b"cc 1"),
-        ConditionCode::Two => sink.put(b"cc 2"),
-        ConditionCode::Three => sink.put(b"cc 3"),
-    }
-}
-
-/// What a condition code of an instruction that shows no words says.
-fn meaning(instruction: Instruction, code: ConditionCode) -> &'static [u8]
-    ensures { result.now ≡ spec.meaning instruction code }
-{
-    match code {
-        ConditionCode::Zero => zero_meaning(instruction),
+        ConditionCode::Zero => zero_meaning(act),
         ConditionCode::One => b"  status pending",
-        ConditionCode::Two => two_meaning(instruction),
+        ConditionCode::Two => two_meaning(act),
         ConditionCode::Three => b"  not operational",
     }
 }
 
 /// What condition code 0 says: of a start, that it was accepted.
-fn zero_meaning(instruction: Instruction) -> &'static [u8]
-    ensures { result.now ≡ spec.zero_meaning instruction }
+fn zero_meaning(act: CpuAct) -> &'static [u8]
+    ensures { result.now ≡ spec.zero_meaning act }
 {
-    match instruction {
-        Instruction::Start => b"  accepted",
+    match act {
+        CpuAct::Executes(Instruction::Start) => b"  accepted",
         _ => b"",
     }
 }
 
 /// What condition code 2 says.
-fn two_meaning(instruction: Instruction) -> &'static [u8]
-    ensures { result.now ≡ spec.two_meaning instruction }
+fn two_meaning(act: CpuAct) -> &'static [u8]
+    ensures { result.now ≡ spec.two_meaning act }
 {
-    match instruction {
-        Instruction::Resume | Instruction::Cancel => b"  not applicable",
+    match act {
+        CpuAct::Executes(Instruction::Resume | Instruction::Cancel) => b"  not applicable",
         _ => b"  busy",
     }
 }
 
 /// A condition code, and what it says.
 #[tactic(auto, using(streams::proofs::Sinking::takes_then, streams::proofs::Sinking::fails_then))]
-fn put_meant<S: Sink>(sink: &mut S, instruction: Instruction, code: ConditionCode) -> bool
-    ensures { Puts (S.seen sink.old) (spec.meant_text instruction code) (S.seen sink.new) result }
+fn put_meant<S: Sink>(sink: &mut S, act: CpuAct, code: ConditionCode) -> bool
+    ensures { Puts (S.seen sink.old) (spec.meant_text act code) (S.seen sink.new) result }
 {
-    put_code(sink, code) && sink.put(meaning(instruction, code))
+    put_both(sink, code_name(code), meaning(act, code))
 }
 
 /// The condition code, and the status word that was stored.
@@ -79,7 +69,7 @@ fn put_meant<S: Sink>(sink: &mut S, instruction: Instruction, code: ConditionCod
 fn put_status<S: Sink>(sink: &mut S, answer: Answer, scsw: &Scsw) -> bool
     ensures { Puts (S.seen sink.old) (spec.status_seen answer scsw.now) (S.seen sink.new) result }
 {
-    put_code(sink, answer.code()) && put_scsw(sink, &scsw.words())
+    sink.put(code_name(answer.code())) && put_scsw(sink, &scsw.words())
 }
 
 fn put_scsw<S: Sink>(sink: &mut S, words: &[u32; 3]) -> bool
@@ -183,30 +173,30 @@ fn put_path_name<S: Sink>(sink: &mut S, path: u8) -> bool
     sink.put(b"cc 0  channel path ") && put_two_digits(sink, path)
 }
 
-/// What an instruction answered: its condition code, where it has one, and what it stored in few words; a refusal and what was
+/// What an act answered: its condition code, where it has one, and what it stored in few words; a refusal and what was
 /// loaded stand behind where the code would.
 #[tactic(auto, unfolding(crate::specs::Seen::outcome_seen))]
 pub(crate) fn put_seen<S: Sink>(
     sink: &mut S,
-    instruction: Instruction,
+    act: CpuAct,
     outcome: &Result<ActionResult, Fault>,
 ) -> bool
-    ensures { Puts (S.seen sink.old) (spec.outcome_seen instruction outcome.now) (S.seen sink.new) result }
+    ensures { Puts (S.seen sink.old) (spec.outcome_seen act outcome.now) (S.seen sink.new) result }
 {
     match outcome {
-        Ok(ActionResult::Reply(reply)) => put_reply_seen(sink, instruction, reply),
+        Ok(ActionResult::Reply(reply)) => put_reply_seen(sink, act, reply),
         Ok(ActionResult::Serials(_)) => put_uncoded(sink, outcome),
         Ok(ActionResult::Race(_)) => put_uncoded(sink, outcome),
         Err(_) => put_uncoded(sink, outcome),
     }
 }
 
-fn put_reply_seen<S: Sink>(sink: &mut S, instruction: Instruction, reply: &Reply) -> bool
-    ensures { Puts (S.seen sink.old) (spec.reply_seen instruction reply.now) (S.seen sink.new) result }
+fn put_reply_seen<S: Sink>(sink: &mut S, act: CpuAct, reply: &Reply) -> bool
+    ensures { Puts (S.seen sink.old) (spec.reply_seen act reply.now) (S.seen sink.new) result }
 {
     match reply {
-        Reply::Code(answer) => put_meant(sink, instruction, answer.code()),
-        Reply::PathReset(code) => put_meant(sink, instruction, *code),
+        Reply::Code(answer) => put_meant(sink, act, answer.code()),
+        Reply::PathReset(code) => put_meant(sink, act, *code),
         Reply::Status { answer, scsw } => put_status(sink, *answer, scsw),
         Reply::Interruption(found) => put_interruption(sink, found),
         Reply::ChannelReport(found) => put_report(sink, *found),

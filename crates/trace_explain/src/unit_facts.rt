@@ -1,9 +1,9 @@
 //! What changed at a unit, each in a line of its own.
 
 use crate::facts::arrow;
-use record_text::fields::{put_between, put_named};
+use record_text::fields::put_named;
 use record_text::names::unit_kind;
-use record_text::told::{put_command_at_hand, put_device_act, put_owner};
+use record_text::told::{put_attention_taken, put_command_at_hand, put_device_act, put_owner};
 use step_records::parties::Parties;
 use step_records::record::{CommandAtHand, DeviceAct, Fact, Owner};
 use step_records::style::Drawing;
@@ -29,7 +29,9 @@ pub(crate) fn put_unit_fact<S: Sink>(
         } => put_unit(sink, *unit) && put_works(sink, parties, *unit, *command),
         Fact::AttentionTaken { unit, attention } => {
             put_unit(sink, *unit)
-                && put_between(sink, b"knows that attention ", *attention, b" was taken\n")
+                && sink.put(b"knows that ")
+                && put_attention_taken(sink, *attention)
+                && sink.put(b"\n")
         }
         Fact::Device { unit, act } => put_unit(sink, *unit) && put_act(sink, act),
         _ => true,

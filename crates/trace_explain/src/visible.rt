@@ -3,7 +3,7 @@
 ghost use Rattle.std.specs.Prelude.{◌≡◌};
 ghost use Rattle.trace_explain.specs.Visible as spec;
 
-use crate::instruction::instruction_of;
+use crate::instruction::act_of;
 use step_records::record::{Fact, Record, ReportChange, RequestChange};
 use step_records::script_lines::ScriptLines;
 
@@ -13,7 +13,7 @@ pub fn is_visible(text: &ScriptLines, told: &Record) -> bool
     ensures { result ≡ spec.is_visible text.now told.now }
 {
     match &told.fact {
-        Fact::Answer(_) => instruction_of(text.line(told.line)).is_some(),
+        Fact::Answer(_) => act_of(text.line(told.line)).is_some(),
         Fact::Request {
             change: RequestChange::Posted,
             ..

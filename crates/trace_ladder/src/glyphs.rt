@@ -1,12 +1,27 @@
 //! The characters that a ladder is drawn with.
 
+ghost use Rattle.std.specs.Prelude.{◌≤◌};
+
 use step_records::style::Drawing;
 
-/// What a shaft of an arrow and a rule are made of.
+/// What a rule is made of.
 pub fn dash(drawing: Drawing) -> &'static [u8] {
     match drawing {
         Drawing::Drawn => "─".as_bytes(),
         Drawing::Ascii => b"-",
+    }
+}
+
+/// The longest shaft of an arrow: a half of the wires without two blanks and its point.
+pub const LONGEST: usize = 17;
+
+/// The shaft of an arrow, of so many dashes.
+pub fn shaft(drawing: Drawing, dashes: usize) -> &'static [u8]
+    requires { dashes ≤ 17 }
+{
+    match drawing {
+        Drawing::Drawn => &"─────────────────".as_bytes()[..3 * dashes],
+        Drawing::Ascii => &b"-----------------"[..dashes],
     }
 }
 

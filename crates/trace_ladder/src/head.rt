@@ -2,9 +2,8 @@
 
 use crate::glyphs::{dash, mark};
 use crate::layout::{HALF, Layout, SCRIPT, SUBCHANNELS, UNITS, names_subchannels, names_units};
-use crate::names::kind_name;
 use channel_config::parts::SubchannelSetup;
-use record_text::names::{kind_of, put_subchannel};
+use record_text::names::{kind_name, kind_of, put_device_number, put_subchannel};
 use record_text::number::{put_hexadecimal, put_two_digits};
 use step_records::parties::Parties;
 use streams::Sink;
@@ -52,12 +51,10 @@ fn put_setup<S: Sink>(
     subchannel: usize,
     setup: &SubchannelSetup,
 ) -> bool {
-    let [high, low] = setup.device.to_be_bytes();
     sink.put(b"  subchannel ")
         && put_subchannel(sink, parties, subchannel)
         && sink.put(b": device ")
-        && put_two_digits(sink, high)
-        && put_two_digits(sink, low)
+        && put_device_number(sink, setup.device)
         && sink.put(b", unit ")
         && put_hexadecimal(sink, u64::from(setup.unit))
         && sink.put(b" ")

@@ -3,12 +3,12 @@
 use crate::glyphs::mark;
 use crate::lanes::{Lane, place_in, rows_in};
 use crate::layout::{CODE, Layout, SCRIPT, SUBCHANNELS};
-use crate::steps::first_word;
 use crate::subchannel_text::put_subchannel_text;
 use crate::unit_text::put_unit_text;
 use crate::wire_columns::put_wires;
 use chan_events::reply::Reply;
-use chan_model::answer::ConditionCode;
+use record_text::codes::{code_name, code_of};
+use record_text::line_words::first_word;
 use record_text::number::put_decimal;
 use script_text::ActionResult;
 use step_records::record::{Fact, Record};
@@ -60,7 +60,7 @@ fn put_row<S: Sink>(
 ) -> bool {
     let mut row = Row::new();
     let begun = if index == 0 {
-        put_script(&mut row, sink, layout, line, code_of(facts))
+        put_script(&mut row, sink, layout, line, answer_of(facts))
     } else {
         row.skip(layout.number.saturating_add(SCRIPT + 2));
         true
@@ -140,7 +140,7 @@ fn put_script<S: Sink>(
 }
 
 /// What is told of the answer beside the line: its condition code, or that nothing was to be chosen.
-fn code_of(facts: &[Record]) -> &'static [u8] {
+fn answer_of(facts: &[Record]) -> &'static [u8] {
     for record in facts {
         if let Fact::Answer(Ok(ActionResult::Reply(reply))) = &record.fact {
             return reply_code(reply);
@@ -152,23 +152,10 @@ fn code_of(facts: &[Record]) -> &'static [u8] {
 /// What is told of a reply.
 fn reply_code(reply: &Reply) -> &'static [u8] {
     match reply {
-        Reply::Code(answer) | Reply::Status { answer, .. } => code_text(answer.code()),
-        Reply::Interruption(None) => code_text(ConditionCode::Zero),
-        Reply::Interruption(Some(_)) => code_text(ConditionCode::One),
-        Reply::PathReset(code) => code_text(*code),
-        Reply::ChannelReport(Some(_)) => code_text(ConditionCode::Zero),
-        Reply::ChannelReport(None) => code_text(ConditionCode::One),
         Reply::Idle => b"idle",
-        _ => b"",
-    }
-}
-
-/// A condition code.
-fn code_text(code: ConditionCode) -> &'static [u8] {
-    match code {
-        ConditionCode::Zero => b"cc 0",
-        ConditionCode::One => b"cc 1",
-        ConditionCode::Two => b"cc 2",
-        ConditionCode::Three => b"cc 3",
+        _ => match code_of(reply) {
+            Some(code) => code_name(code),
+            None => b"",
+        },
     }
 }

@@ -4,6 +4,7 @@ ghost use Rattle.std.specs.Prelude.{◌≤◌, length};
 
 use crate::layout::Layout;
 use crate::line::{put_line, put_storage};
+use record_text::line_words::first_word;
 use step_records::record::{Fact, Record};
 use step_records::style::StorageLines;
 use streams::Sink;
@@ -94,12 +95,4 @@ fn is_refused(facts: &[Record]) -> bool {
     facts
         .iter()
         .any(|record| matches!(record.fact, Fact::Answer(Err(_))))
-}
-
-/// The first word of a line.
-pub fn first_word(line: &[u8]) -> &[u8] {
-    match line.split(|byte| *byte == b' ').next() {
-        Some(word) => word,
-        None => &[],
-    }
 }

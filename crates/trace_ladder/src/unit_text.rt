@@ -2,11 +2,12 @@
 
 use crate::layout::{Layout, names_subchannels, names_units};
 use crate::names::unit_of;
-use record_text::names::{put_subchannel, unit_kind};
+use record_text::names::put_subchannel;
 use record_text::number::put_hexadecimal;
-use record_text::told::{put_command_at_hand, put_device_act};
+use record_text::short::put_short;
+use record_text::told::{put_attention_taken, put_place};
 use step_records::parties::Parties;
-use step_records::record::{Fact, Holder, Owner, Place};
+use step_records::record::{Fact, Holder, Owner};
 use streams::Sink;
 
 /// The text of a fact in the lane.
@@ -15,7 +16,7 @@ pub fn put_unit_text<S: Sink>(sink: &mut S, layout: &Layout<'_>, fact: &Fact) ->
     let Some(unit) = unit_in(parties, fact) else {
         return true;
     };
-    put_whose(sink, parties, unit) && put_change(sink, parties, unit, fact)
+    put_whose(sink, parties, unit) && put_change(sink, parties, fact)
 }
 
 /// The unit that a fact is about.
@@ -40,21 +41,14 @@ fn put_whose<S: Sink>(sink: &mut S, parties: &Parties, unit: usize) -> bool {
 }
 
 /// What changed at a unit.
-fn put_change<S: Sink>(sink: &mut S, parties: &Parties, unit: usize, fact: &Fact) -> bool {
+fn put_change<S: Sink>(sink: &mut S, parties: &Parties, fact: &Fact) -> bool {
     match fact {
         Fact::Signal { .. } => sink.put(b"ignores it"),
         Fact::Owner { before, after, .. } => put_owner(sink, parties, *before, *after),
-        Fact::Command {
-            after: Some(command),
-            ..
-        } => { put_command_at_hand(sink, unit_kind(parties, unit), *command) }
         Fact::AttentionTaken { attention, .. } => {
-            sink.put(b"knows that attention ")
-                && put_hexadecimal(sink, *attention)
-                && sink.put(b" was taken")
+            sink.put(b"knows that ") && put_attention_taken(sink, *attention)
         }
-        Fact::Device { act, .. } => put_device_act(sink, act),
-        _ => true,
+        other => put_short(sink, parties, other),
     }
 }
 
@@ -89,14 +83,4 @@ fn put_holder<S: Sink>(sink: &mut S, parties: &Parties, holder: Holder) -> bool 
 /// The greatest number that a unit took.
 fn put_floor<S: Sink>(sink: &mut S, floor: u64) -> bool {
     sink.put(b"; floor ") && put_hexadecimal(sink, floor)
-}
-
-/// Where a program is that holds a unit.
-fn put_place<S: Sink>(sink: &mut S, place: Place) -> bool {
-    match place {
-        Place::On(path) => sink.put(b"on path ") && put_hexadecimal(sink, path.index() as u64),
-        Place::Asks(path) => sink.put(b"asks for path ")
-            && put_hexadecimal(sink, path.index() as u64),
-        Place::Away => sink.put(b"away"),
-    }
 }

@@ -1,6 +1,6 @@
 //! The wires between the subchannels and the units.
 
-use crate::glyphs::{cross, dash, idle, left, mark, right};
+use crate::glyphs::{LONGEST, cross, idle, left, mark, right, shaft};
 use crate::layout::{HALF, Layout, names_subchannels};
 use record_text::names::{kind_of, put_subchannel};
 use record_text::number::put_hexadecimal;
@@ -9,9 +9,6 @@ use step_records::record::{Fact, Moved, Signal, Way, Wire};
 use streams::Sink;
 use text_cells::cell::{CELL_BYTES, Cell};
 use text_cells::row::Row;
-
-/// How many characters stand about the name of a signal in an arrow: two blanks and its point.
-const ABOUT: usize = 3;
 
 /// A signal that moved.
 #[derive(Drop)]
@@ -130,13 +127,13 @@ fn put_name<S: Sink>(sink: &mut S, layout: &Layout<'_>, at: &Move<'_>) -> bool {
 /// An arrow with the name of a signal, whose shaft is as long as there is room.
 fn put_arrow<S: Sink>(row: &mut Row, sink: &mut S, layout: &Layout<'_>, at: &Move<'_>) -> bool {
     let drawing = layout.style.drawing;
-    let mut name = layout.cell(HALF - ABOUT);
+    let mut name = layout.cell(LONGEST);
     let _ = put_name(&mut name, layout, at);
-    let shaft = (HALF - ABOUT).saturating_sub(name.characters());
+    let shaft = shaft(drawing, LONGEST.saturating_sub(name.characters()));
     let way = at.wire.way;
     match way {
         Way::Down => {
-            row.put_times(sink, dash(drawing), shaft)
+            row.put(sink, shaft)
                 && row.put(sink, b" ")
                 && row.put_cell(sink, &name, mark(drawing))
                 && row.put(sink, b" ")
@@ -147,7 +144,7 @@ fn put_arrow<S: Sink>(row: &mut Row, sink: &mut S, layout: &Layout<'_>, at: &Mov
                 && row.put(sink, b" ")
                 && row.put_cell(sink, &name, mark(drawing))
                 && row.put(sink, b" ")
-                && row.put_times(sink, dash(drawing), shaft)
+                && row.put(sink, shaft)
         }
     }
 }

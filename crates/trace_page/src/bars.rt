@@ -1,14 +1,15 @@
 //! The bars on the lanes: what the subsystem takes a device to be held by, and whom a unit is held by.
 
-use chan_model::hold_state::HoldPhase;
 use memory::Supply;
 use page_layout::lanes::{Lane, Party};
 use page_layout::layout::Layout;
 use page_layout::rows::Row;
+use page_states::colours::hold_class;
 use page_text::marks::{Attribute, Tag};
 use page_text::page::Page;
 use record_text::hold_text::put_hold;
 use record_text::told::put_owner;
+use state_tracks::names::HoldName;
 use step_records::record::{Fact, Place};
 use streams::Sink;
 
@@ -69,14 +70,7 @@ fn is_change_of(fact: &Fact, party: Party) -> bool {
 /// The colour of a state; None where there is no bar.
 fn class_of(fact: &Fact) -> Option<&'static [u8]> {
     match fact {
-        Fact::Hold { after, .. } => match after.phase {
-            HoldPhase::Free => None,
-            HoldPhase::Offer { .. } => Some(b"offered"),
-            HoldPhase::On { .. } => Some(b"connected"),
-            HoldPhase::Away { .. } => Some(b"away"),
-            HoldPhase::Letting { .. } => Some(b"letting"),
-            HoldPhase::Reset { .. } => Some(b"reset"),
-        },
+        Fact::Hold { after, .. } => Some(hold_class(HoldName::of(after.phase)?)),
         Fact::Owner { after, .. } => match after.holder {
             None => None,
             Some(holder) => match holder.place {

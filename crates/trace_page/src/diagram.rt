@@ -5,7 +5,6 @@ use crate::labels::Label;
 use crate::notes::{put_note, put_second};
 use crate::script_lane::put_script_line;
 use crate::signals::{put_labels, put_lines};
-use channel_config::parts::UnitKind;
 use memory::Supply;
 use page_layout::lanes::{Lane, NoteSide, Party};
 use page_layout::layout::{Layout, SCRIPT};
@@ -14,8 +13,7 @@ use page_layout::pictures::{begin_picture, put_name};
 use page_layout::rows::{NOTE, Row};
 use page_text::marks::{Attribute, Tag};
 use page_text::page::Page;
-use record_text::names::unit_kind;
-use record_text::number::put_hexadecimal;
+use record_text::names::{kind_name, put_device_number, unit_kind};
 use step_records::record::{Fact, Record};
 use streams::Sink;
 
@@ -125,33 +123,12 @@ fn put_kind<M: Supply>(page: &mut Page<'_, M>, layout: &Layout<'_>, party: Party
         Party::Subchannel(subchannel) => {
             if let Some(setup) = layout.trace.parties.subchannels.as_slice().get(subchannel) {
                 page.show(b"device ");
-                put_four_digits(page, setup.device);
+                put_device_number(page, setup.device);
             }
         }
         Party::Unit(unit) => {
             page.show(kind_name(unit_kind(&layout.trace.parties, unit)));
         }
-    }
-}
-
-/// The four hexadecimal digits of a device number.
-fn put_four_digits<M: Supply>(page: &mut Page<'_, M>, number: u16) {
-    let zeros: &[u8] = match number {
-        0..=0xF => b"000",
-        0x10..=0xFF => b"00",
-        0x100..=0xFFF => b"0",
-        _ => b"",
-    };
-    page.show(zeros);
-    put_hexadecimal(page, u64::from(number));
-}
-
-/// The word of a script for a kind of unit.
-pub fn kind_name(kind: UnitKind) -> &'static [u8] {
-    match kind {
-        UnitKind::Block => b"block",
-        UnitKind::Console => b"console",
-        UnitKind::Rejecting => b"reject",
     }
 }
 

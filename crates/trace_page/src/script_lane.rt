@@ -8,6 +8,8 @@ use page_layout::layout::{Layout, SCRIPT};
 use page_layout::rows::Row;
 use page_text::marks::{Attribute, Mark, Tag};
 use page_text::page::Page;
+use record_text::codes::{code_name, code_of};
+use record_text::line_words::first_word;
 use script_text::ActionResult;
 use step_records::record::Fact;
 use streams::Sink;
@@ -78,9 +80,7 @@ fn put_words<M: Supply>(page: &mut Page<'_, M>, layout: &Layout<'_>, row: &Row) 
 
 /// The first word of a line, and the last line that is like it.
 fn put_until<M: Supply>(page: &mut Page<'_, M>, line: &[u8], last: u64) {
-    if let Some(word) = line.split(|byte| *byte == b' ').next() {
-        page.show(word);
-    }
+    page.show(first_word(line));
     page.show(b" to line ");
     page.number(last);
 }
@@ -115,7 +115,7 @@ fn put_verdict<M: Supply>(page: &mut Page<'_, M>, layout: &Layout<'_>, row: &Row
     for record in row.records(layout.trace) {
         if let Fact::Answer(answer) = &record.fact {
             match verdict_of(answer) {
-                Verdict::Code(code) => put_answer(page, layout, row, b"code", code_text(code)),
+                Verdict::Code(code) => put_answer(page, layout, row, b"code", code_name(code)),
                 Verdict::Ignored => put_answer(page, layout, row, b"bad", b"ignored"),
                 Verdict::Refused => put_answer(page, layout, row, b"bad", b"refused"),
                 Verdict::Plain => {}
@@ -153,31 +153,10 @@ fn verdict_of(answer: &Result<ActionResult, Fault>) -> Verdict {
 /// What a reply comes to.
 fn reply_verdict(reply: &Reply) -> Verdict {
     match reply {
-        Reply::Code(answer) => Verdict::Code(answer.code()),
-        Reply::Status { answer, .. } => Verdict::Code(answer.code()),
-        Reply::PathReset(code) => Verdict::Code(*code),
-        Reply::Interruption(found) => Verdict::Code(one_where(found.is_some())),
-        Reply::ChannelReport(report) => Verdict::Code(one_where(report.is_none())),
         Reply::Up { taken: false, .. } | Reply::Down { taken: false, .. } => Verdict::Ignored,
-        _ => Verdict::Plain,
-    }
-}
-
-/// Code 1 where something is so, else code 0.
-fn one_where(so: bool) -> ConditionCode {
-    if so {
-        ConditionCode::One
-    } else {
-        ConditionCode::Zero
-    }
-}
-
-/// A condition code as it is written.
-fn code_text(code: ConditionCode) -> &'static [u8] {
-    match code {
-        ConditionCode::Zero => b"cc 0",
-        ConditionCode::One => b"cc 1",
-        ConditionCode::Two => b"cc 2",
-        ConditionCode::Three => b"cc 3",
+        _ => match code_of(reply) {
+            Some(code) => Verdict::Code(code),
+            None => Verdict::Plain,
+        },
     }
 }

@@ -11,7 +11,7 @@ use Rattle.script_runner.proofs.Growing.{actions-more, grown, runs-length, runs-
 use Rattle.script_runner.specs.Acting.{ActionOutcome, Installed, IsOpening, Runs}
 use Rattle.script_runner.specs.Performing.{output_of}
 use Rattle.script_text.specs.Text.{event_line}
-use Rattle.step_records.specs.Told.{AnsweredLine, answered_by, answers_of}
+use Rattle.step_facts.specs.Told.{AnsweredLine, answered_by, answers_of}
 use Rattle.step_records.specs.declared.record.Record.{Record}
 use Rattle.step_records.specs.declared.parties.Parties.{Parties}
 use Rattle.trace_runs.specs.Tracing.{AreOf, AreTold, HasPerformedAt, HasStepped, HasTraced, IsToldOf, IsTraced, Traced, answered, answered_line, printed}

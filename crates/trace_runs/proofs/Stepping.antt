@@ -10,24 +10,25 @@ use Rattle.chan_model.specs.Reports.{Report}
 use Rattle.chan_model.specs.declared.fault.Fault.{Fault}
 use Rattle.chan_model.specs.declared.fault.Fault.TheVariants as fault
 use Rattle.machine_model.specs.State.{Past}
-use Rattle.machine_sight.specs.Shown.{Shows}
+use Rattle.machine_sight.specs.Balance.{IsBalanced, signal_of, signals_on}
+use Rattle.machine_sight.specs.Shown.{Shows, TellsWaiting}
+use Rattle.machine_sight.specs.Waiting.{WaitingQueues, waits_on}
+use Rattle.machine_sight.specs.declared.balance.Course.{Course}
+use Rattle.machine_sight.specs.declared.balance.Course.TheVariants.{Onto, Off}
+use Rattle.machine_sight.specs.declared.sight.Sight.{Sight}
 use Rattle.script_rows.specs.declared.Action.{Action}
 use Rattle.script_rows.specs.declared.Action.TheVariants as action
 use Rattle.script_runner.specs.Acting.{ActionOutcome, Enters, Follows, Installed, PerformsAction, device_turn_of}
 use Rattle.script_text.specs.Text.{told_of as outcome_told}
 use Rattle.script_text.specs.declared.ActionResult.TheVariants as outcome
-use Rattle.step_records.specs.Balance.{IsBalanced, signal_of, signals_on, waits_on}
-use Rattle.step_records.specs.Told.{Told, facts_where, is_move, told_of}
-use Rattle.step_records.specs.declared.balance.Course.{Course}
-use Rattle.step_records.specs.declared.balance.Course.TheVariants.{Onto, Met, Gone}
+use Rattle.step_facts.specs.Told.{Told, answers_of, facts_where, is_move, told_of}
 use Rattle.step_records.specs.declared.parties.Parties.{Parties}
 use Rattle.step_records.specs.declared.record.Fact.{Fact}
 use Rattle.step_records.specs.declared.record.Fact.TheVariants as fact
 use Rattle.step_records.specs.declared.record.Record.{Record}
 use Rattle.step_records.specs.declared.record.Signal.{Signal}
 use Rattle.step_records.specs.declared.record.Wire.{Wire}
-use Rattle.step_records.specs.declared.sight.Sight.{Sight}
-use Rattle.trace_runs.specs.Tracing.{AreHeldBy, HasStepped, HasTold, IsLast, IsMovedBy, IsSeen, Traced, answered_line}
+use Rattle.trace_runs.specs.Tracing.{AreHeldBy, HasAdded, HasStepped, HasTold, IsLast, IsMovedBy, IsSeen, Traced, answered_line}
 
 -- where no signal moved there is none of any course
 one_quiet : (course : Course) (on : Wire) (f : Fact) (rs : List Record) → (facts_where is_move rs ≡ [] → signals_on course on rs ≡ []) →
@@ -39,13 +40,11 @@ no_signals : (course : Course) (on : Wire) (rs : List Record) → facts_where is
 no_signals course on [] e = refl
 no_signals course on (r ∷ rs) e = one_quiet course on r.fact rs (no_signals course on rs) e
 
-balanced_quiet : (sight : Sight) (facts : List Record) → facts_where is_move facts ≡ [] → IsBalanced sight facts sight
-balanced_quiet sight facts e = λ on within small.
-    let waits : List Signal = waits_on sight on in
-    ap (λ (t : List Signal). waits ++ t) (no_signals Onto on facts e)
-    ∙ (append-nil waits
-    ∙ sym (ap (λ (t : List Signal). t ++ (signals_on Gone on facts ++ waits)) (no_signals Met on facts e)
-    ∙ ap (λ (t : List Signal). t ++ waits) (no_signals Gone on facts e)))
+balanced_quiet : (waiting : List WaitingQueues) (facts : List Record) → facts_where is_move facts ≡ [] → IsBalanced waiting facts waiting
+balanced_quiet waiting facts e = λ on.
+    ap (λ (t : List Signal). waits_on waiting on ++ t) (no_signals Onto on facts e)
+    ∙ (append-nil (waits_on waiting on)
+    ∙ sym (ap (λ (t : List Signal). t ++ waits_on waiting on) (no_signals Off on facts e)))
 
 -- a refusal, or a look
 abbrev pub is_quiet : ActionOutcome → Bool
@@ -92,44 +91,67 @@ last_grown old new e grown =
     let less : length (old ++ e ∷ []) - 1 ≡ length old = omega (arith, long) in
     subst (λ (h : List Entry). IsLast h e) (sym grown) (ap (λ n. slice_get (old ++ e ∷ []) n) less ∙ at_end old e)
 
+-- what is seen of a machine is seen of one in the same state
+seen_same : (old new : Traced) → new.machine.past.state ≡ old.machine.past.state → new.parties ≡ old.parties → new.sight ≡ old.sight → new.waiting ≡ old.waiting →
+    IsSeen old → IsSeen new
+seen_same old new state alike same still seen = record {
+  shown = subst (λ (s : Sight). Shows new.machine.past.state new.parties s) (sym same)
+      (subst (λ (p : Parties). Shows new.machine.past.state p old.sight) (sym alike)
+      (subst (λ s. Shows s old.parties old.sight) (sym state) seen.shown));
+  told = subst (λ (ws : List WaitingQueues). TellsWaiting new.machine.past.state new.parties.subchannels.items ws) (sym still)
+      (subst (λ (p : Parties). TellsWaiting new.machine.past.state p.subchannels.items old.waiting) (sym alike)
+      (subst (λ s. TellsWaiting s old.parties.subchannels.items old.waiting) (sym state) seen.told));
+}
+
 -- an action of which only what it came to is told
-pub stepped_quiet : (old new : Traced) (line : ℕ) (action : Action) (outcome : ActionOutcome) (facts before after : List Record) (told : Told) →
+quiet_step : (old new : Traced) (line : ℕ) (action : Action) (outcome : ActionOutcome) (before after : List Record) (told : Told) →
     PerformsAction old.machine action outcome new.machine → is_quiet outcome ≡ true → new.parties ≡ old.parties → new.sight ≡ old.sight →
-    told ≡ record { line = line; answers = answered_line line outcome ∷ []; moves = []; holds = [] } → told_of told.line facts ≡ told →
-    after ≡ before ++ facts → IsSeen old → HasStepped old line action before after new
-stepped_quiet old new line action outcome facts before after told acts quiet stay same is was added seen =
-    let still = quiet_past old.machine new.machine action outcome quiet acts in
-    let shown = subst (λ s. Shows s old.parties old.sight) (sym still.0) seen in
+    new.waiting ≡ old.waiting → told ≡ record { line = line; answers = answered_line line outcome ∷ []; moves = []; holds = [] } →
+    HasAdded told before after → IsSeen old → HasStepped old line action before after new
+quiet_step old new line action outcome before after told acts quiet stay same still is was seen =
+    let past = quiet_past old.machine new.machine action outcome quiet acts in
+    let shown = subst (λ s. Shows s old.parties old.sight) (sym past.0) seen.shown in
+    let waits = subst (λ s. TellsWaiting s old.parties.subchannels.items old.waiting) (sym past.0) seen.told in
     record {
-      facts = facts;
-      added = added;
+      facts = was.facts;
+      added = was.added;
       told = record {
         outcome = outcome;
         acts = acts;
-        answers = ap (λ (t : Told). t.answers) was ∙ ap (λ (t : Told). t.answers) is;
+        answers = ap (λ (t : Told). t.answers) was.are ∙ ap (λ (t : Told). t.answers) is;
         before = old.sight;
         after = old.sight;
-        shown_before = seen;
+        shown_before = seen.shown;
         shown_after = shown;
-        balanced = balanced_quiet old.sight facts (ap (λ (t : Told). t.moves) was ∙ ap (λ (t : Told). t.moves) is);
-        moves = λ entry grown. absurd (not_longer old.machine.past.history new.machine.past.history entry still.1 grown);
-        holds = λ entry grown. absurd (not_longer old.machine.past.history new.machine.past.history entry still.1 grown);
+        waited = old.waiting;
+        waits = old.waiting;
+        told_before = seen.told;
+        told_after = waits;
+        balanced = balanced_quiet old.waiting was.facts (ap (λ (t : Told). t.moves) was.are ∙ ap (λ (t : Told). t.moves) is);
+        moves = λ entry grown. absurd (not_longer old.machine.past.history new.machine.past.history entry past.1 grown);
+        holds = λ entry grown. absurd (not_longer old.machine.past.history new.machine.past.history entry past.1 grown);
       };
       parties_stay = stay;
-      seen = subst (λ (s : Sight). Shows new.machine.past.state new.parties s) (sym same)
-          (subst (λ (p : Parties). Shows new.machine.past.state p old.sight) (sym stay) shown);
+      seen = seen_same old new past.0 stay same still seen;
     }
 
+pub stepped_quiet : (old new : Traced) (m : Installed) (line : ℕ) (action : Action) (outcome : ActionOutcome) (before after : List Record) (told : Told) →
+    PerformsAction old.machine action outcome m → is_quiet outcome ≡ true → new ≡ record old { machine = m } →
+    told ≡ record { line = line; answers = answered_line line outcome ∷ []; moves = []; holds = [] } →
+    HasAdded told before after → IsSeen old → HasStepped old line action before after new
+stepped_quiet old new m line action outcome before after told acts quiet kept is was seen =
+    subst (λ (t : Traced). HasStepped old line action before after t) (sym kept)
+    (quiet_step old (record old { machine = m }) line action outcome before after told acts quiet refl refl refl is was seen)
+
 -- an event of which the facts are told behind what it came to
-pub stepped_told : (old middle new : Traced) (line : ℕ) (action : Action) (outcome : ActionOutcome) (told : Told) (before after : List Record) →
-    PerformsAction old.machine action outcome middle.machine → middle.parties ≡ old.parties → middle.sight ≡ old.sight →
+told_step : (old middle new : Traced) (line : ℕ) (action : Action) (outcome : ActionOutcome) (told : Told) (before after : List Record) →
+    PerformsAction old.machine action outcome middle.machine → middle.parties ≡ old.parties → middle.sight ≡ old.sight → middle.waiting ≡ old.waiting →
     told ≡ record { line = line; answers = answered_line line outcome ∷ []; moves = []; holds = [] } →
     HasTold middle told before after new → IsSeen old → HasStepped old line action before after new
-stepped_told old middle new line action outcome told before after acts alike same is h seen =
+told_step old middle new line action outcome told before after acts alike same still is h seen =
     let first : Told = record { line = line; answers = answered_line line outcome ∷ []; moves = []; holds = [] } in
     let k : HasTold middle first before after new = subst (λ (t : Told). HasTold middle t before after new) is h in
     let stay : new.parties ≡ old.parties = k.parties_stay ∙ alike in
-    let shown = subst (λ (p : Parties). Shows new.machine.past.state p new.sight) stay k.seen in
     record {
       facts = k.facts;
       added = k.added;
@@ -139,9 +161,13 @@ stepped_told old middle new line action outcome told before after acts alike sam
         answers = k.answers_are;
         before = old.sight;
         after = new.sight;
-        shown_before = seen;
-        shown_after = shown;
-        balanced = subst (λ (s : Sight). IsBalanced s k.facts new.sight) same k.balanced;
+        shown_before = seen.shown;
+        shown_after = subst (λ (p : Parties). Shows new.machine.past.state p new.sight) stay k.seen.shown;
+        waited = old.waiting;
+        waits = new.waiting;
+        told_before = seen.told;
+        told_after = subst (λ (p : Parties). TellsWaiting new.machine.past.state p.subchannels.items new.waiting) stay k.seen.told;
+        balanced = subst (λ (ws : List WaitingQueues). IsBalanced ws k.facts new.waiting) still k.balanced;
         moves = λ entry grown.
             subst (λ (p : Parties). IsMovedBy p old.sight entry first k.facts) alike
             (subst (λ (s : Sight). IsMovedBy middle.parties s entry first k.facts) same
@@ -152,3 +178,41 @@ stepped_told old middle new line action outcome told before after acts alike sam
       parties_stay = stay;
       seen = k.seen;
     }
+
+pub stepped_told : (old middle new : Traced) (m : Installed) (line : ℕ) (action : Action) (outcome : ActionOutcome) (told : Told) (before after : List Record) →
+    PerformsAction old.machine action outcome m → middle ≡ record old { machine = m } →
+    told ≡ record { line = line; answers = answered_line line outcome ∷ []; moves = []; holds = [] } →
+    HasTold middle told before after new → IsSeen old → HasStepped old line action before after new
+stepped_told old middle new m line action outcome told before after acts kept is h seen =
+    told_step old (record old { machine = m }) new line action outcome told before after acts refl refl refl is
+    (subst (λ (t : Traced). HasTold t told before after new) kept h) seen
+
+-- the facts were followed on the wires of a machine that stays, and what is seen next is kept
+pub has_told : (old followed new : Traced) (told : Told) (before after list : List Record) (next : Sight) →
+    after ≡ before ++ list → answers_of list ≡ told.answers →
+    ((entry : Entry) → IsLast old.machine.past.history entry → IsMovedBy old.parties old.sight entry told list) →
+    AreHeldBy old.sight next told list → Shows old.machine.past.state old.parties next → IsBalanced old.waiting list followed.waiting →
+    TellsWaiting followed.machine.past.state followed.parties.subchannels.items followed.waiting →
+    followed ≡ record old { waiting = followed.waiting } → new ≡ record followed { sight = next } → HasTold old told before after new
+has_told old followed new told before after list next added answers moves holds shown balanced tells kept is =
+    let stays : followed.machine ≡ old.machine = ap (λ (t : Traced). t.machine) kept in
+    let alike : followed.parties ≡ old.parties = ap (λ (t : Traced). t.parties) kept in
+    subst (λ (t : Traced). HasTold old told before after t) (sym is) (record {
+      facts = list;
+      added = added;
+      answers_are = answers;
+      moves = moves;
+      holds = holds;
+      balanced = balanced;
+      machine_stays = stays;
+      parties_stay = alike;
+      seen = record {
+        shown = subst (λ (m : Installed). Shows m.past.state followed.parties next) (sym stays)
+            (subst (λ (p : Parties). Shows old.machine.past.state p next) (sym alike) shown);
+        told = tells;
+      };
+    })
+
+-- the same where the machine is shown as a value
+pub at_value : (value old new : Traced) (told : Told) (before after : List Record) → value ≡ old → HasTold value told before after new → HasTold old told before after new
+at_value value old new told before after is h = subst (λ (t : Traced). HasTold t told before after new) is h

@@ -3,7 +3,10 @@ use Rattle.std.specs.Prelude.{◌≡◌, ◌-◌, ℕ, true, false, List, [], �
 use Rattle.std.specs.List.{flat_map}
 use Rattle.chan_events.specs.declared.reply.Entry.{Entry}
 use Rattle.channel_config.specs.Setup.{Setup}
-use Rattle.machine_sight.specs.Shown.{Shows}
+use Rattle.machine_sight.specs.Balance.{IsBalanced}
+use Rattle.machine_sight.specs.Shown.{Shows, TellsWaiting}
+use Rattle.machine_sight.specs.Waiting.{WaitingQueues}
+use Rattle.machine_sight.specs.declared.sight.Sight.{Sight}
 use Rattle.script.specs.Pieces.{lines_of}
 use Rattle.script.specs.Scripts.{IsScript, ScriptContents}
 use Rattle.script.specs.declared.Line.{Line}
@@ -11,24 +14,24 @@ use Rattle.script_rows.specs.declared.Action.{Action}
 use Rattle.script_runner.specs.Acting.{ActionOutcome, Installed, IsAudited, IsOpening, PerformsAction, Runs}
 use Rattle.script_runner.specs.Performing.{output_of}
 use Rattle.script_text.specs.Text.{event_line}
-use Rattle.step_records.specs.Balance.{IsBalanced}
-use Rattle.step_records.specs.Holds.{all_hold_changes}
-use Rattle.step_records.specs.Moves.{is_told_by_reply, met_of, sent_of}
+use Rattle.step_facts.specs.Holds.{all_hold_changes}
+use Rattle.step_facts.specs.Moves.{is_told_by_reply, met_of, sent_of}
 use Rattle.step_records.specs.Named.{named_by}
-use Rattle.step_records.specs.Told.{AnsweredLine, Told, answers_of, facts_where, is_hold, is_move, nothing_told}
+use Rattle.step_facts.specs.Told.{AnsweredLine, Told, answers_of, facts_where, is_hold, is_move, nothing_told, told_of}
 use Rattle.step_records.specs.declared.parties.Parties.{Parties}
 use Rattle.step_records.specs.declared.record.Record.{Record}
-use Rattle.step_records.specs.declared.sight.Sight.{Sight}
 
--- a machine, who there is, and what a look showed of it last
+-- a machine, who there is, what a look showed of it last, and what waits on its wires as it is told
 pub record Traced : Type 0 where
   pub machine : Installed
   pub parties : Parties
   pub sight : Sight
+  pub waiting : List WaitingQueues
 
--- the last look shows the machine as it is
-abbrev pub IsSeen : Traced → Type 0
-IsSeen traced = Shows traced.machine.past.state traced.parties traced.sight
+-- the machine is as the last look shows it, and what waits at it is told
+pub record IsSeen (traced : Traced) : Type 0 where
+  pub shown : Shows traced.machine.past.state traced.parties traced.sight
+  pub told : TellsWaiting traced.machine.past.state traced.parties.subchannels.items traced.waiting
 
 -- a line, and what it came to
 abbrev pub answered_line : ℕ → ActionOutcome → AnsweredLine
@@ -53,6 +56,12 @@ IsMovedBy parties before entry told facts = (sub : ℕ) → named_by parties ent
 abbrev pub AreHeldBy : Sight → Sight → Told → List Record → Type 0
 AreHeldBy before after told facts = facts_where is_hold facts ≡ told.holds ++ all_hold_changes before.subchannels.items after.subchannels.items
 
+-- these facts were added, and nothing else
+pub record HasAdded (told : Told) (before after : List Record) : Type 0 where
+  pub facts : List Record
+  pub added : after ≡ before ++ facts
+  pub are : told_of told.line facts ≡ told
+
 -- behind what was told, the facts of the last event were told of a machine that stays
 pub record HasTold (old : Traced) (told : Told) (before after : List Record) (new : Traced) : Type 0 where
   pub facts : List Record
@@ -60,14 +69,14 @@ pub record HasTold (old : Traced) (told : Told) (before after : List Record) (ne
   pub answers_are : answers_of facts ≡ told.answers
   pub moves : (entry : Entry) → IsLast old.machine.past.history entry → IsMovedBy old.parties old.sight entry told facts
   pub holds : AreHeldBy old.sight new.sight told facts
-  pub balanced : IsBalanced old.sight facts new.sight
+  pub balanced : IsBalanced old.waiting facts new.waiting
   pub machine_stays : new.machine ≡ old.machine
   pub parties_stay : new.parties ≡ old.parties
   pub seen : IsSeen new
 
 -- the facts of a line: what its action came to, as `chsim run` performs it, and what differs between two looks, of which one shows the
--- machine before it and the other after it. They account for all that moved on the wires; where an event was accepted, they tell the
--- signals that its reply says were met and sent, and the holds that changed.
+-- machine before it and the other after it. They account for all that waits on the wires, at the machine before it and after it; where an
+-- event was accepted, they tell the signals that its reply says were met and sent, and the holds that changed.
 pub record IsToldOf (parties : Parties) (old : Installed) (number : ℕ) (action : Action) (facts : List Record) (new : Installed) : Type 0 where
   pub outcome : ActionOutcome
   pub acts : PerformsAction old action outcome new
@@ -76,7 +85,11 @@ pub record IsToldOf (parties : Parties) (old : Installed) (number : ℕ) (action
   pub after : Sight
   pub shown_before : Shows old.past.state parties before
   pub shown_after : Shows new.past.state parties after
-  pub balanced : IsBalanced before facts after
+  pub waited : List WaitingQueues
+  pub waits : List WaitingQueues
+  pub told_before : TellsWaiting old.past.state parties.subchannels.items waited
+  pub told_after : TellsWaiting new.past.state parties.subchannels.items waits
+  pub balanced : IsBalanced waited facts waits
   pub moves : (entry : Entry) → new.past.history ≡ old.past.history ++ entry ∷ [] → IsMovedBy parties before entry (nothing_told number) facts
   pub holds : (entry : Entry) → new.past.history ≡ old.past.history ++ entry ∷ [] → AreHeldBy before after (nothing_told number) facts
 
@@ -106,9 +119,11 @@ pub record HasTraced (parties : Parties) (old : Installed) (lines : List Line) (
 abbrev pub printed : List AnsweredLine → List ℕ
 printed answers = flat_map (λ (a : AnsweredLine). event_line a.line a.outcome) answers
 
--- the subchannels and the units of a set-up
-abbrev pub AreOf : Setup → Parties → Type 0
-AreOf setup parties = (parties.subchannels.items ≡ setup.subchannels) × (parties.units.items ≡ setup.units)
+-- the subchannels, the units and the channel paths of a set-up
+pub record AreOf (setup : Setup) (parties : Parties) : Type 0 where
+  pub subchannels : parties.subchannels.items ≡ setup.subchannels
+  pub units : parties.units.items ≡ setup.units
+  pub paths : parties.paths.items ≡ setup.paths
 
 -- the text is a script, which was performed from the opening of its set-up; what the records answer prints as `chsim run` does, and they
 -- are the facts of its lines

@@ -7,11 +7,12 @@ ghost use Rattle.core_lock.specs.Directory.{directory_of};
 ghost use Rattle.script_rows.specs.Slots.{action_in, action_length};
 ghost use Rattle.script_runner.specs.Acting as acting;
 ghost use Rattle.script_runner.specs.Acting.{IsAudited, IsOpening};
-ghost use Rattle.step_records.specs.Balance.{IsBalanced};
-ghost use Rattle.step_records.specs.Told as told_spec;
-ghost use Rattle.step_records.specs.Told.{answers_of};
+ghost use Rattle.machine_sight.specs.Balance.{IsBalanced};
+ghost use Rattle.step_facts.specs.Told as told_spec;
+ghost use Rattle.step_facts.specs.Told.{answers_of};
 ghost use Rattle.chan_events.specs.declared.reply.Entry.{Entry};
-ghost use Rattle.trace_runs.specs.Tracing.{AreHeldBy, AreOf, HasStepped, HasTold, IsLast, IsMovedBy, IsSeen, answered_line};
+ghost use Rattle.machine_sight.specs.Shown.{Shows, TellsWaiting};
+ghost use Rattle.trace_runs.specs.Tracing.{AreHeldBy, AreOf, HasAdded, HasStepped, HasTold, IsLast, IsMovedBy, IsSeen, answered_line};
 
 use crate::TraceFault;
 use chan_events::event::Event;
@@ -22,8 +23,11 @@ use channel_config::parts::PathReturn;
 use core_lock::naming::MachineBrand;
 use core_lock::parts::Parts;
 use core_lock::supplies::CoreSupply;
-use machine_sight::{SightFault, seen};
-use memory::{Supply, push};
+use machine::looks::Looks;
+use machine_sight::looking::SightFault;
+use machine_sight::sight::Sight;
+use machine_sight::waiting::Waiting;
+use memory::{Supply, make_room};
 use path_select::Rotating;
 use script_rows::slots::KeptAction;
 use script_runner::buffers::EventBuffers;
@@ -31,13 +35,12 @@ use script_runner::scripted_machine::{Acted, ScriptedMachine};
 use script_text::ActionResult;
 use std::alloc::{AllocError, Global};
 use std::marker::Model;
-use step_records::balance::is_balanced;
-use step_records::facts::add_facts;
+use std::mem;
+use step_facts::facts::add_facts;
+use step_facts::requests::Requests;
+use step_facts::step::{FactFault, Step, StepFacts, named_by};
 use step_records::parties::Parties as Participants;
 use step_records::record::{Fact, Record};
-use step_records::requests::Requests;
-use step_records::sight::Sight;
-use step_records::step::{FactFault, Step, StepFacts, named_by};
 use subsystem::subsystem::Subsystem;
 
 /// What became of an action.
@@ -51,7 +54,7 @@ pub enum Stepped {
     Refused(Fault),
 }
 
-/// A machine, and what a look showed of it after the last step.
+/// A machine, what a look showed of it after the last step, and what waits on its wires as the facts of all steps tell it.
 #[derive(Drop)]
 pub struct Tracer<J: MachineBrand> {
     alloc: Global,
@@ -61,6 +64,11 @@ pub struct Tracer<J: MachineBrand> {
     path_return: PathReturn,
     requests: Requests,
     sight: Sight,
+    waiting: Waiting,
+    /// Room for the look after a step.
+    next: Sight,
+    /// Room for the facts of a step.
+    list: Vec<Record>,
 }
 
 impl<J: MachineBrand> Model for Tracer<J> {
@@ -68,7 +76,7 @@ impl<J: MachineBrand> Model for Tracer<J> {
 
     ghost Value = { Traced };
 
-    ghost view = { λ t. record { machine = t.machine; parties = t.parties; sight = t.sight } };
+    ghost view = { λ t. record { machine = t.machine; parties = t.parties; sight = t.sight; waiting = t.waiting } };
 }
 
 /// The outcome of an action, as it is told.
@@ -128,18 +136,19 @@ fn found_by(sight: &Sight, parties: &Participants, action: &KeptAction) -> Optio
     }
 }
 
-/// What a line found and what it came to, as the first facts of its step.
+/// What a line found and what it came to, as the first facts of its step, in what room a list has that holds none.
 fn first_facts<S: Supply>(
-    alloc: Global,
     supply: &mut S,
     line: u64,
+    list: Vec<Record>,
     found: Option<Fact>,
     outcome: Result<ActionResult, Fault>,
 ) -> Result<StepFacts, AllocError>
-    requires { IfSome found (λ fact. told_spec.is_other fact ≡ true) }
+    requires found { IfSome found (λ fact. told_spec.is_other fact ≡ true) }
+    requires none { list.items ≡ [] }
     ensures { IfOk result (λ facts. facts ≡ record { line = line; answers = answered_line line outcome ∷ []; moves = []; holds = [] }) }
 {
-    let mut facts = StepFacts::new(alloc, line);
+    let mut facts = StepFacts::new(line, list);
     facts.push(supply, Fact::Event)?;
     if let Some(found) = found {
         facts.push(supply, found)?;
@@ -148,18 +157,48 @@ fn first_facts<S: Supply>(
     Ok(facts)
 }
 
-/// Adds records behind others.
+/// Moves records behind others.
 fn add_all<S: Supply>(
     supply: &mut S,
-    list: Vec<Record>,
+    list: &mut Vec<Record>,
     records: &mut Vec<Record>,
 ) -> Result<(), AllocError>
-    ensures { OnOk result (records.new.items ≡ records.old.items ++ list.items) }
+    ensures added { OnOk result (records.new.items ≡ records.old.items ++ list.old.items) }
+    ensures moved { OnOk result (list.new.items ≡ []) }
+    ensures memory { OnErr result (S.refused supply.new ≡ true) }
 {
-    for told in list {
-        push(supply, records, told)?;
-    }
+    make_room(supply, records, list.len())?;
+    let _ = records.append(list);
     Ok(())
+}
+
+/// What is seen of a machine at which nothing waits.
+#[derive(Drop)]
+struct FirstSeen {
+    sight: Sight,
+    waiting: Waiting,
+}
+
+/// What is seen of a machine at its opening, where nothing waits on its wires.
+fn first_seen<S: Supply, L: Looks>(
+    alloc: Global,
+    supply: &mut S,
+    looks: &L,
+    parties: &Participants,
+) -> Result<FirstSeen, TraceFault>
+    ensures shown { IfOk result (λ seen. Shows (L.state looks.now) parties.now seen.sight) }
+    ensures told { IfOk result (λ seen. TellsWaiting (L.state looks.now) parties.now.subchannels.items seen.waiting) }
+{
+    let mut sight = Sight::none(alloc);
+    if let Err(fault) = sight.look(supply, looks, parties) {
+        return Err(fault_of(fault, 0));
+    }
+    let waiting = Waiting::none(alloc, supply, parties.subchannels.len())?;
+    if waiting.tells(looks, parties) {
+        Ok(FirstSeen { sight, waiting })
+    } else {
+        Err(TraceFault::Unbalanced(0))
+    }
 }
 
 impl<J: MachineBrand> Tracer<J> {
@@ -182,18 +221,19 @@ impl<J: MachineBrand> Tracer<J> {
         let path_return = config.path_return();
         let requests = Requests::none(alloc, supply, parties.subchannels.len())?;
         let (machine, _) = ScriptedMachine::<J>::new(alloc, supply, config, parts, 0)?;
-        match seen(alloc, supply, machine.subsystem(), &parties) {
-            Ok(sight) => Ok(Tracer {
-                alloc,
-                machine,
-                buffers: EventBuffers::new(),
-                parties,
-                path_return,
-                requests,
-                sight,
-            }),
-            Err(fault) => Err(fault_of(fault, 0)),
-        }
+        let seen = first_seen(alloc, supply, machine.subsystem(), &parties)?;
+        Ok(Tracer {
+            alloc,
+            machine,
+            buffers: EventBuffers::new(),
+            parties,
+            path_return,
+            requests,
+            sight: seen.sight,
+            waiting: seen.waiting,
+            next: Sight::none(alloc),
+            list: Vec::new(alloc),
+        })
     }
 
     /// The machine, to look at.
@@ -218,6 +258,13 @@ impl<J: MachineBrand> Tracer<J> {
         &self.sight
     }
 
+    /// What waits on the wires now.
+    pub fn waiting(&self) -> &Waiting
+        ensures { result.now ≡ self.now.waiting }
+    {
+        &self.waiting
+    }
+
     /// Who there is, and whether the audit found the books that the history has.
     pub fn finish(self) -> (Participants, bool)
         ensures parties { result.0 ≡ self.parties }
@@ -231,6 +278,9 @@ impl<J: MachineBrand> Tracer<J> {
             path_return: _,
             requests: _,
             sight: _,
+            waiting: _,
+            next: _,
+            list: _,
         } = self;
         (parties, machine.audited())
     }
@@ -252,21 +302,48 @@ impl<J: MachineBrand> Tracer<J> {
         let found = found_by(&self.sight, &self.parties, action);
         let acted = self.machine.act(supply, action, bytes, &mut self.buffers);
         let outcome = outcome_of(&self.machine, &acted);
-        let facts = first_facts(self.alloc, supply, line, found, outcome)?;
+        let facts = first_facts(supply, line, self.take_list(), found, outcome)?;
         match acted {
             Ok(Acted::Replied) => {
                 self.tell(supply, line, facts, records)?;
                 Ok(Stepped::Accepted)
             }
             Ok(Acted::Looked(_)) => {
-                add_all(supply, facts.into_records(), records)?;
+                self.add(supply, facts, records)?;
                 Ok(Stepped::Looked)
             }
             Err(fault) => {
-                add_all(supply, facts.into_records(), records)?;
+                self.add(supply, facts, records)?;
                 Ok(Stepped::Refused(fault))
             }
         }
+    }
+
+    /// The room for the facts of a step, emptied.
+    fn take_list(&mut self) -> Vec<Record>
+        ensures none { result.items ≡ [] }
+        ensures kept { self.new ≡ self.old }
+    {
+        let mut list = mem::replace(&mut self.list, Vec::new(self.alloc));
+        list.clear();
+        list
+    }
+
+    /// Adds these facts.
+    fn add<S: Supply>(
+        &mut self,
+        supply: &mut S,
+        facts: StepFacts,
+        records: &mut Vec<Record>,
+    ) -> Result<(), AllocError>
+        ensures added { OnOk result (HasAdded facts records.old.items records.new.items) }
+        ensures kept { self.new ≡ self.old }
+        ensures memory { OnErr result (S.refused supply.new ≡ true) }
+    {
+        let mut list = facts.into_records();
+        add_all(supply, &mut list, records)?;
+        self.list = list;
+        Ok(())
     }
 
     /// Adds the facts of the event that was accepted last, which account for all that moved.
@@ -279,18 +356,31 @@ impl<J: MachineBrand> Tracer<J> {
     ) -> Result<(), TraceFault>
         ensures { OnOk result (HasTold self.old facts records.old.items records.new.items self.new) }
     {
-        let after = match seen(self.alloc, supply, self.machine.subsystem(), &self.parties) {
-            Ok(after) => after,
-            Err(fault) => return Err(fault_of(fault, line)),
-        };
-        let list = self.facts_to(supply, line, facts, &after)?;
-        let balanced = is_balanced(self.alloc, supply, &self.sight, list.as_slice(), &after)?;
-        if !balanced || self.requests.subclasses() != after.requested {
+        let mut next = mem::replace(&mut self.next, Sight::none(self.alloc));
+        if let Err(fault) = next.look(supply, self.machine.subsystem(), &self.parties) {
+            return Err(fault_of(fault, line));
+        }
+        let mut list = self.facts_to(supply, line, facts, &next)?;
+        if !self.follow(supply, list.as_slice())? || self.requests.subclasses() != next.requested {
             return Err(TraceFault::Unbalanced(line));
         }
-        self.sight = after;
-        add_all(supply, list, records)?;
+        self.next = mem::replace(&mut self.sight, next);
+        add_all(supply, &mut list, records)?;
+        self.list = list;
         Ok(())
+    }
+
+    /// Follows the facts of a step on the wires, and answers whether that could be and what waits then is what waits at the machine.
+    fn follow<S: Supply>(&mut self, supply: &mut S, list: &[Record]) -> Result<bool, AllocError>
+        ensures balanced { IfOk result (λ followed. IsTrue followed → IsBalanced self.old.waiting list.now self.new.waiting) }
+        ensures told { IfOk result (λ followed. IsTrue followed → TellsWaiting self.new.machine.past.state self.new.parties.subchannels.items self.new.waiting) }
+        ensures kept { self.new ≡ record self.old { waiting = self.new.waiting } }
+        ensures memory { OnErr result (S.refused supply.new ≡ true) }
+    {
+        if !self.waiting.follow(supply, list)? {
+            return Ok(false);
+        }
+        Ok(self.waiting.tells(self.machine.subsystem(), &self.parties))
     }
 
     /// The facts of the event that was accepted last, where a look now shows this, behind those of its line.
@@ -314,11 +404,13 @@ impl<J: MachineBrand> Tracer<J> {
             path_return: self.path_return,
             subchannel: named_by(&self.parties, &entry.event),
             before: &self.sight,
+            waiting: &self.waiting,
             entry: &entry,
             after,
         };
+        let looks = self.machine.subsystem();
         let mut facts = facts;
-        match add_facts(supply, &step, &mut self.requests, &mut facts) {
+        match add_facts(supply, &step, looks, &mut self.requests, &mut facts) {
             Ok(()) => Ok(facts.into_records()),
             Err(fault) => Err(fault_of_facts(fault, line)),
         }

@@ -1,7 +1,14 @@
 //! What a line of a script is about.
 
+ghost use Rattle.std.specs.Prelude.{◌≡◌, ℕ, List, map, take};
+ghost use Rattle.script.specs.Pieces.{words_between_blanks};
+ghost use Rattle.script_rows.specs.Actions.{action_row as row_of};
+ghost use Rattle.script_rows.specs.Slots.{action_in};
+ghost use Rattle.trace_selection.specs.Subjects as spec;
+
 use arrayvec::ArrayVec;
 use chan_events::event::{Event, OtherInstruction};
+use script::pieces::find;
 use script_rows::actions::action_row;
 use script_rows::slots::{ActionSlot, KeptAction};
 
@@ -22,7 +29,9 @@ pub(crate) enum Subject {
 }
 
 /// What an instruction without a subchannel is about.
-fn subject_of_other(instruction: OtherInstruction) -> Subject {
+fn subject_of_other(instruction: OtherInstruction) -> Subject
+    ensures { result ≡ spec.subject_of_other instruction }
+{
     match instruction {
         OtherInstruction::Rchp { path } => Subject::ChannelPath(path),
         OtherInstruction::Tpi { .. }
@@ -32,7 +41,9 @@ fn subject_of_other(instruction: OtherInstruction) -> Subject {
 }
 
 /// What an event is about.
-fn subject_of_event<B, R>(event: &Event<B, R>) -> Subject {
+fn subject_of_event<B, R>(event: &Event<B, R>) -> Subject
+    ensures { result ≡ spec.subject_of_event event.now }
+{
     match event {
         Event::Execute { instruction, .. } => Subject::Subchannel(instruction.subchannel_word()),
         Event::ExecuteOther { instruction, .. } => subject_of_other(*instruction),
@@ -53,28 +64,54 @@ fn subject_of_event<B, R>(event: &Event<B, R>) -> Subject {
     }
 }
 
+/// What an action is about, whatever its bytes.
+#[tactic(auto, using(crate::proofs::Parting::same_subject))]
+fn subject_of_action(kept: &KeptAction) -> Subject
+    ensures { (bytes : List ℕ) → result ≡ spec.subject_of_action (action_in kept.now bytes) }
+{
+    match kept {
+        KeptAction::Event(event) => subject_of_event(event),
+        KeptAction::Dev(unit) => Subject::Unit(*unit),
+        KeptAction::Glance(subchannel) => Subject::Subchannel(*subchannel),
+    }
+}
+
+/// What a line of these words is about; all where it is no line of an action.
+fn subject_of_row(word: &[u8], words: &[&[u8]]) -> Subject
+    ensures { result ≡ spec.subject_of_row (row_of word.now (map (λ w. w.now) words.now)) }
+{
+    let mut slot = ActionSlot::new();
+    match action_row(&mut slot, word, words) {
+        Ok(true) => subject_of_action(&slot.kept),
+        Ok(false) | Err(_) => Subject::All,
+    }
+}
+
 /// The first words of a line.
-fn words_of(line: &[u8]) -> ArrayVec<&[u8], MOST_WORDS> {
+fn words_of(line: &[u8]) -> ArrayVec<&[u8], MOST_WORDS>
+    ensures { map (λ w. w.now) result.items ≡ take 8 (words_between_blanks line.now) }
+{
     let mut words = ArrayVec::new();
-    for word in line.split(|byte| *byte == b' ') {
-        let _ = words.try_push(word);
+    let mut rest = line;
+    while words.len() < MOST_WORDS {
+        let end = find(rest, b' ');
+        words.push(&rest[..end]);
+        if end >= rest.len() {
+            return words;
+        }
+        rest = &rest[end + 1..];
     }
     words
 }
 
 /// What a line is about; all where it is no line of an action.
-pub(crate) fn subject_of_line(line: &[u8]) -> Subject {
+#[tactic(auto, unfolding(crate::specs::Subjects::subject_of_line))]
+pub(crate) fn subject_of_line(line: &[u8]) -> Subject
+    ensures { result ≡ spec.subject_of_line line.now }
+{
     let words = words_of(line);
-    let [first, others @ ..] = words.as_slice() else {
-        return Subject::All;
-    };
-    let mut slot = ActionSlot::new();
-    match action_row(&mut slot, first, others) {
-        Ok(true) => match slot.kept {
-            KeptAction::Event(event) => subject_of_event(&event),
-            KeptAction::Dev(unit) => Subject::Unit(unit),
-            KeptAction::Glance(subchannel) => Subject::Subchannel(subchannel),
-        },
-        Ok(false) | Err(_) => Subject::All,
+    match words.as_slice() {
+        [] => Subject::All,
+        [word, others @ ..] => subject_of_row(word, others),
     }
 }

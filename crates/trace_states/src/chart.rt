@@ -1,7 +1,7 @@
 //! A row of states.
 
 use crate::draw::{NAMES, mark, off, on};
-use crate::track::Track;
+use state_tracks::track::Track;
 use step_records::record::{Fact, Record};
 use step_records::style::{Drawing, Style, Widths};
 use step_records::trace::Trace;
@@ -34,7 +34,7 @@ impl Chart<'_> {
 /// The row of a bit or a state, where it is on after one of the lines at least.
 pub fn put_track<S: Sink>(sink: &mut S, chart: &Chart<'_>, track: &Track, name: &Cell) -> bool {
     let records = chart.trace.records.as_slice();
-    if !track.is_ever_on(records) {
+    if !is_ever_on(track, records) {
         return true;
     }
     let drawing = chart.style.drawing;
@@ -42,6 +42,18 @@ pub fn put_track<S: Sink>(sink: &mut S, chart: &Chart<'_>, track: &Track, name: 
     row.put_left(sink, name, NAMES, mark(drawing))
         && put_levels(&mut row, sink, records, track, drawing)
         && row.end(sink)
+}
+
+/// Whether a bit or a state is on after one of the lines at least.
+fn is_ever_on(track: &Track, records: &[Record]) -> bool {
+    let mut level = 0;
+    for record in records {
+        if matches!(record.fact, Fact::Event) && level > 0 {
+            return true;
+        }
+        level = track.after(level, &record.fact);
+    }
+    level > 0
 }
 
 /// The levels after each line.

@@ -1,6 +1,7 @@
 //! The row of letters for what each line does, and what they mean.
 
 use crate::draw::{NAMES, cross, down, off, up};
+use record_text::line_words::{first_word, without_cpu};
 use step_records::record::Fact;
 use step_records::style::{Drawing, Style};
 use step_records::trace::Trace;
@@ -27,7 +28,7 @@ pub fn put_events<S: Sink>(sink: &mut S, trace: &Trace, style: Style) -> bool {
 
 /// The letter of a line.
 fn letter(line: &[u8], drawing: Drawing) -> &'static [u8] {
-    match acting_word(line) {
+    match first_word(without_cpu(line)) {
         b"ssch" => b"s",
         b"stsch" => b"t",
         b"tsch" => b"T",
@@ -43,19 +44,6 @@ fn letter(line: &[u8], drawing: Drawing) -> &'static [u8] {
         b"stcrw" => b"r",
         b"put" | b"key" | b"prefix" | b"show" | b"glance" => off(drawing),
         _ => b"?",
-    }
-}
-
-/// The word of a line that says what it does: its first, or the third after `cpu N`.
-fn acting_word(line: &[u8]) -> &[u8] {
-    let mut words = line.split(|byte| *byte == b' ');
-    match words.next() {
-        Some(b"cpu") => match words.nth(1) {
-            Some(word) => word,
-            None => &[],
-        },
-        Some(word) => word,
-        None => &[],
     }
 }
 

@@ -4,10 +4,9 @@
 mod chart;
 mod draw;
 mod events;
-mod labels;
+mod holders;
 mod numbers;
 mod section;
-mod track;
 
 use crate::chart::Chart;
 use crate::events::{put_events, put_legend};

@@ -4,11 +4,12 @@ ghost use Rattle.std.specs.Prelude.{◌<◌};
 
 use crate::chart::{Chart, put_track};
 use crate::draw::{down, up};
-use crate::labels::{bit_rows, hold_rows, kind_name};
-use crate::track::{Track, next_holder};
+use crate::holders::next_holder;
 use chan_model::names::Path;
-use record_text::names::{put_subchannel, unit_kind};
+use record_text::names::{kind_name, put_subchannel, unit_kind};
 use record_text::number::put_hexadecimal;
+use state_tracks::names::{BitGroup, FIRST_BIT, HOLD_NAMES, LAST_BIT, bit_group, bit_name};
+use state_tracks::track::Track;
 use step_records::record::{Way, Wire};
 use streams::Sink;
 use text_cells::cell::Cell;
@@ -36,13 +37,10 @@ fn put_subchannel_rows<S: Sink>(sink: &mut S, chart: &Chart<'_>, subchannel: usi
 
 /// The bits of the status word.
 fn put_bits<S: Sink>(sink: &mut S, chart: &Chart<'_>, subchannel: usize) -> bool {
-    for bit in bit_rows() {
+    for bit in FIRST_BIT..LAST_BIT + 1 {
         let mut name = chart.name();
-        let _ = name.put(bit.name);
-        let track = Track::Bit {
-            subchannel,
-            mask: bit.mask,
-        };
+        let _ = name.put(group_name(bit_group(bit))) && name.put(bit_name(bit));
+        let track = Track::Bit { subchannel, bit };
         if !put_track(sink, chart, &track, &name) {
             return false;
         }
@@ -50,15 +48,21 @@ fn put_bits<S: Sink>(sink: &mut S, chart: &Chart<'_>, subchannel: usize) -> bool
     true
 }
 
+/// What stands before the name of a bit.
+fn group_name(group: BitGroup) -> &'static [u8] {
+    match group {
+        BitGroup::Function => b"FC ",
+        BitGroup::Activity => b"AC ",
+        BitGroup::Status => b"SC ",
+    }
+}
+
 /// The states of the hold.
 fn put_holds<S: Sink>(sink: &mut S, chart: &Chart<'_>, subchannel: usize) -> bool {
-    for hold in hold_rows() {
+    for at in HOLD_NAMES {
         let mut name = chart.name();
-        let _ = name.put(hold.name);
-        let track = Track::Hold {
-            subchannel,
-            at: hold.at,
-        };
+        let _ = name.put(b"hold ") && name.put(at.text());
+        let track = Track::Hold { subchannel, at };
         if !put_track(sink, chart, &track, &name) {
             return false;
         }
@@ -188,7 +192,7 @@ fn put_holders_of<S: Sink>(
         let track = Track::HeldBy {
             unit,
             subchannel,
-            number,
+            number: Some(number),
         };
         if !put_track(sink, chart, &track, &name) {
             return false;

@@ -189,6 +189,7 @@ impl<R: BufRead + Drop, S: Sink> Talk<'_, R, S> {
         let due = partner.stepping.due(supply)?;
         let looked = Looked {
             sight: partner.stepping.tracer().sight(),
+            waiting: partner.stepping.tracer().waiting(),
             parties: partner.stepping.tracer().parties(),
         };
         if !put_answer_to(self.sink, &looked, due.as_slice(), question) {

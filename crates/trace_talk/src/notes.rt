@@ -1,16 +1,12 @@
 //! What is told of an action behind its answer.
 
-use crate::queries::put_statuses;
-use record_text::fields::{put_between, put_named};
+use record_text::fields::put_between;
 use record_text::names::kind_of;
 use record_text::put_signal;
-use record_text::rows::direction_name;
-use record_text::told::{
-    put_device_act, put_path_state, put_program, put_report, put_request_short,
-};
-use script_text::put_bytes;
+use record_text::short::{put_short, put_statuses};
+use record_text::told::{put_copy, put_device_act, put_path_state};
 use step_records::parties::Parties;
-use step_records::record::{Direction, Fact, Moved, Record};
+use step_records::record::{Fact, Moved, Record};
 use streams::Sink;
 use word_names::put_status_names;
 use zbits::field;
@@ -63,25 +59,9 @@ fn put_note<S: Sink>(sink: &mut S, parties: &Parties, fact: &Fact) -> bool {
             ..
         } => put_copy(sink, *direction, *address, bytes.as_slice()),
         Fact::Device { act, .. } => sink.put(b"the device ") && put_device_act(sink, act),
-        Fact::Program { start, stage, .. } => put_program(sink, *start, *stage),
         Fact::StatusMade { words, .. } => put_status(sink, words),
-        Fact::StatusCleared { .. } => sink.put(b"status cleared"),
-        Fact::Request {
-            subclass,
-            change,
-            ..
-        } => put_request_short(sink, *subclass, *change),
-        Fact::Report { change, crw } => put_report(sink, *crw, *change),
-        _ => true,
+        other => put_short(sink, parties, other),
     }
-}
-
-/// Bytes that were fetched from storage or stored there: `fetched C1C2 at 2000`.
-fn put_copy<S: Sink>(sink: &mut S, direction: Direction, address: u32, bytes: &[u8]) -> bool {
-    sink.put(direction_name(direction))
-        && sink.put(b" ")
-        && put_bytes(sink, bytes)
-        && put_named(sink, b" at ", u64::from(address))
 }
 
 /// Whether a status is pending that says nothing else by the bits of its status control.
@@ -107,5 +87,5 @@ fn put_status<S: Sink>(sink: &mut S, words: &[u32; 3]) -> bool {
     sink.put(b"STATUS ")
         && put_names(sink, words[0])
         && sink.put(b"; ")
-        && put_statuses(sink, words[2])
+        && put_statuses(sink, words[2], b"; ")
 }

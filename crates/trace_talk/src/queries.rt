@@ -5,25 +5,26 @@ use crate::due::DueLine;
 use crate::stepping::{RANKS, rank};
 use chan_model::names::Path;
 use channel_config::parts::SubchannelSetup;
-use record_text::names::kind_of;
+use functions::state::PackedState;
+use machine_sight::sight::Sight;
+use machine_sight::waiting::Waiting;
+use record_text::names::{kind_of, put_path_and_way};
 use record_text::number::put_hexadecimal;
+use record_text::short::put_statuses;
 use record_text::told::{put_command_at_hand, put_owner};
 use record_text::{put_hold, put_signal, put_subchannel_name};
 use script_text::put_words;
-use step_records::facts::units::{command_of, owner_of};
+use step_facts::facts::units::{command_of, owner_of};
 use step_records::parties::Parties;
 use step_records::record::{Way, Wire};
-use step_records::sight::{Sight, SubchannelSight};
 use streams::Sink;
-use word_names::{
-    put_activity, put_count, put_functions, put_scsw_control, put_short_status, put_status_control,
-};
-use zbits::field;
+use word_names::{put_activity, put_functions, put_scsw_control, put_status_control};
 
 /// What a look at a machine showed, and who there is.
 #[derive(Drop)]
 pub(crate) struct Looked<'a> {
     pub(crate) sight: &'a Sight,
+    pub(crate) waiting: &'a Waiting,
     pub(crate) parties: &'a Parties,
 }
 
@@ -94,7 +95,7 @@ fn put_taken<S: Sink>(sink: &mut S, looked: &Looked<'_>, line: DueLine) -> bool 
     let Some(wire) = wire_of(looked.parties, line) else {
         return true;
     };
-    match looked.sight.signals(&wire) {
+    match looked.waiting.signals(&wire) {
         [] => true,
         [signal, ..] => {
             sink.put(b"  ")
@@ -138,8 +139,8 @@ fn put_status_word<S: Sink>(sink: &mut S, looked: &Looked<'_>, index: usize) -> 
 }
 
 /// The words of a subchannel-status word, and what the first says.
-fn put_words_of<S: Sink>(sink: &mut S, seen: &SubchannelSight) -> bool {
-    let words = seen.state.scsw_words();
+fn put_words_of<S: Sink>(sink: &mut S, seen: &PackedState) -> bool {
+    let words = seen.scsw_words();
     put_words(sink, words)
         && sink.put(b"  ")
         && put_scsw_control(sink, words[0])
@@ -150,40 +151,36 @@ fn put_words_of<S: Sink>(sink: &mut S, seen: &SubchannelSight) -> bool {
         && sink.put(b" | status ")
         && put_status_control(sink, words[0])
         && sink.put(b" | ")
-        && put_statuses(sink, words[2])
-}
-
-/// The device status and the subchannel status of a word, where there are some, and its count.
-pub(crate) fn put_statuses<S: Sink>(sink: &mut S, word: u32) -> bool {
-    let device = field(word, 0, 7) as u8;
-    let subchannel = field(word, 8, 15) as u8;
-    (device == 0 && subchannel == 0
-        || put_short_status(sink, device, subchannel) && sink.put(b"; "))
-        && put_count(sink, word)
+        && put_statuses(sink, words[2], b"; ")
 }
 
 /// What the subsystem takes the device to be held by.
-fn put_hold_of<S: Sink>(sink: &mut S, seen: &SubchannelSight) -> bool {
-    sink.put(b"; hold ") && put_hold(sink, &seen.state.rest().hold) && sink.put(b"\n")
+fn put_hold_of<S: Sink>(sink: &mut S, seen: &PackedState) -> bool {
+    sink.put(b"; hold ") && put_hold(sink, &seen.rest().hold) && sink.put(b"\n")
 }
 
 /// The signals that wait on the wires of a subchannel, a line each wire on which some do.
 fn put_wires<S: Sink>(sink: &mut S, looked: &Looked<'_>, subchannel: usize) -> bool {
     for index in 0..8u32 {
-        if let Some(path) = Path::new(index) {
-            let down = Wire {
-                subchannel,
-                path,
-                way: Way::Down,
-            };
-            let up = Wire {
-                subchannel,
-                path,
-                way: Way::Up,
-            };
-            if !(put_wire(sink, looked, &down) && put_wire(sink, looked, &up)) {
-                return false;
-            }
+        if let Some(path) = Path::new(index)
+            && !put_wires_of(sink, looked, subchannel, path)
+        {
+            return false;
+        }
+    }
+    true
+}
+
+/// Those on the two wires of a path.
+fn put_wires_of<S: Sink>(sink: &mut S, looked: &Looked<'_>, subchannel: usize, path: Path) -> bool {
+    for way in [Way::Down, Way::Up] {
+        let wire = Wire {
+            subchannel,
+            path,
+            way,
+        };
+        if !put_wire(sink, looked, &wire) {
+            return false;
         }
     }
     true
@@ -191,7 +188,7 @@ fn put_wires<S: Sink>(sink: &mut S, looked: &Looked<'_>, subchannel: usize) -> b
 
 /// The signals that wait on a wire; nothing where none does.
 fn put_wire<S: Sink>(sink: &mut S, looked: &Looked<'_>, wire: &Wire) -> bool {
-    let signals = looked.sight.signals(wire);
+    let signals = looked.waiting.signals(wire);
     if signals.is_empty() {
         return true;
     }
@@ -214,13 +211,7 @@ fn put_wire_name<S: Sink>(sink: &mut S, parties: &Parties, wire: &Wire) -> bool 
         Some(setup) => put_name(sink, setup),
         None => true,
     };
-    named
-        && sink.put(b" path ")
-        && put_hexadecimal(sink, wire.path.index() as u64)
-        && sink.put(match wire.way {
-            Way::Down => b" down",
-            Way::Up => b" up",
-        })
+    named && put_path_and_way(sink, *wire)
 }
 
 /// Whom a unit is held by, and its command at hand.

@@ -8,10 +8,10 @@ use Rattle.record_text.proofs.signal_fields.put_give.Goals as goal
 
 pub returns-then-put_transfer : goal.returns-then-put_transfer
 returns-then-put_transfer g c =
-    takes_then _ _ _ (spec.transfer_fields (codes "give t=") c.args.place) (codes " bytes=" ++ flat_map byte_text c.args.bytes.now) _
+    takes_then _ _ _ (spec.transfer_fields (codes "give t=") c.args.number c.args.connection c.args.command c.args.sequence) (codes " bytes=" ++ flat_map byte_text c.args.bytes.now) _
     c.if-put_transfer.ensures (same_text _ _ _ _ _ (ap (λ (bytes : List ℕ). codes " bytes=" ++ flat_map byte_text bytes) c.as_slice.ensures.value) c.put_named_bytes.ensures)
 
 pub returns-else-put_transfer : goal.returns-else-put_transfer
 returns-else-put_transfer g c =
-    failed_so _ _ (spec.transfer_fields (codes "give t=") c.args.place) (codes " bytes=" ++ flat_map byte_text c.args.bytes.now) _
+    failed_so _ _ (spec.transfer_fields (codes "give t=") c.args.number c.args.connection c.args.command c.args.sequence) (codes " bytes=" ++ flat_map byte_text c.args.bytes.now) _
     c.if-put_transfer.false c.if-put_transfer.ensures

@@ -1,16 +1,16 @@
-use Rattle.std.proofs.Common.{◌++◌, List, codes, ap, true, false}
-use Rattle.script_text.proofs.Printing.{same_text, failed_so}
+use Rattle.std.proofs.Common.{codes, ◌++◌}
+use Rattle.zbits.specs.Bits.{field_of}
+use Rattle.script_text.proofs.Printing.{failed_so}
 use Rattle.streams.proofs.Sinking.{takes_then}
-use Rattle.trace_explain.specs.SeenWords.{NamedBit}
 use Rattle.trace_explain.specs.SeenWords as spec
 use Rattle.trace_explain.proofs.seen_words.put_ending.Goals as goal
 
-pub returns-then-put_titled : goal.returns-then-put_titled
-returns-then-put_titled g c =
-    takes_then _ _ _ (codes "; " ++ spec.names_text c.args.word false spec.statuses) (spec.count_text c.args.address c.args.word) _
-    (same_text _ _ _ _ true (ap (λ (names : List NamedBit). codes "; " ++ spec.names_text c.args.word false names) c.statuses.ensures) c.if-put_titled.ensures) c.put_count.ensures
+pub returns-then-put_titled_statuses : goal.returns-then-put_titled_statuses
+returns-then-put_titled_statuses g c =
+    takes_then _ _ _ (codes "; " ++ spec.statuses_text (field_of c.args.word 0 7) (field_of c.args.word 8 15)) (spec.count_text c.args.address c.args.word) _
+    c.if-put_titled_statuses.ensures c.put_count.ensures
 
-pub returns-else-put_titled : goal.returns-else-put_titled
-returns-else-put_titled g c =
-    failed_so _ _ (codes "; " ++ spec.names_text c.args.word false spec.statuses) (spec.count_text c.args.address c.args.word) _ c.if-put_titled.false
-    (same_text _ _ _ _ false (ap (λ (names : List NamedBit). codes "; " ++ spec.names_text c.args.word false names) c.statuses.ensures) c.if-put_titled.ensures)
+pub returns-else-put_titled_statuses : goal.returns-else-put_titled_statuses
+returns-else-put_titled_statuses g c =
+    failed_so _ _ (codes "; " ++ spec.statuses_text (field_of c.args.word 0 7) (field_of c.args.word 8 15)) (spec.count_text c.args.address c.args.word) _
+    c.if-put_titled_statuses.false c.if-put_titled_statuses.ensures

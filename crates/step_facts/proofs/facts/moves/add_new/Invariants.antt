@@ -1,0 +1,5 @@
+use Rattle.step_facts.specs.Told.{OnlyMoved}
+use Rattle.step_facts.proofs.facts.moves.add_new.Given as goal
+
+abbrev pub invariant-loop-subchannel : goal.invariant-loop-subchannel
+invariant-loop-subchannel g l = OnlyMoved l.fn.facts l.facts

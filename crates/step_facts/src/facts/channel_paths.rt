@@ -1,0 +1,79 @@
+//! Channel paths that came up or went down, and what is reported of them.
+
+ghost use Rattle.std.specs.Prelude.{◌≡◌};
+
+use crate::step::{Step, StepFacts};
+use chan_events::event::Event;
+use chan_events::reply::Reply;
+use channel_config::parts::PathReturn;
+use memory::Supply;
+use scsw_irb::crw::{Crw, PathReport};
+use std::alloc::AllocError;
+use step_records::record::{Fact, ReportChange};
+
+/// The channel paths whose state changed.
+pub(crate) fn add_paths<S: Supply>(
+    supply: &mut S,
+    step: &Step<'_>,
+    facts: &mut StepFacts,
+) -> Result<(), AllocError>
+    ensures { facts.new ≡ facts.old }
+{
+    for index in 0..step
+        .before
+        .up
+        .len()
+        .min(step.after.up.len())
+        .min(step.parties.paths.len())
+    {
+        let up = step.after.up[index];
+        if step.before.up[index] != up {
+            let chpid = step.parties.paths[index];
+            facts.push(supply, Fact::PathState { chpid, up })?;
+        }
+    }
+    Ok(())
+}
+
+/// What the event reports of which channel path.
+fn reported(event: &Event, path_return: PathReturn) -> Option<(PathReport, u32)> {
+    match event {
+        Event::PathDown { chpid } => Some((PathReport::Lost, *chpid)),
+        Event::PathUp { chpid } => Some((path_return.report(), *chpid)),
+        Event::PathReset { chpid } => Some((PathReport::ResetDone, *chpid)),
+        _ => None,
+    }
+}
+
+/// The report that the event makes, which waits where more wait than before; or that STORE CHANNEL REPORT WORD took out.
+pub(crate) fn add_reports<S: Supply>(
+    supply: &mut S,
+    step: &Step<'_>,
+    facts: &mut StepFacts,
+) -> Result<(), AllocError>
+    ensures { facts.new ≡ facts.old }
+{
+    if let Reply::ChannelReport(Some(crw)) = step.reply() {
+        return facts.push(
+            supply,
+            Fact::Report {
+                change: ReportChange::TakenOut,
+                crw: *crw,
+            },
+        );
+    }
+    let Some((report, chpid)) = reported(step.event(), step.path_return) else {
+        return Ok(());
+    };
+    let change = if step.before.reports < step.after.reports {
+        ReportChange::Waits
+    } else {
+        ReportChange::Lost
+    };
+    let crw = Crw {
+        report,
+        overflow: false,
+        path: (chpid % 256) as u8,
+    };
+    facts.push(supply, Fact::Report { change, crw })
+}

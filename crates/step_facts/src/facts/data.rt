@@ -1,0 +1,216 @@
+//! The blocks of a program that took control, and the bytes that moved between storage and the wires.
+
+ghost use Rattle.std.specs.Prelude.{◌≡◌};
+
+use crate::step::{Step, StepFacts};
+use ccw_codec::Format;
+use chan_events::reply::Reply;
+use chan_model::chunk::Chunk;
+use chan_model::signal::{Down, Load, Up};
+use data_move::transfer::Transfer;
+use memory::Supply;
+use std::alloc::AllocError;
+use step_records::record::{Direction, Fact};
+use subchannel_model::state::ActiveProgram;
+
+/// The program that holds the device of the subchannel that a step names, before it and after it.
+#[derive(Drop)]
+struct AtWork {
+    subchannel: usize,
+    before: Option<ActiveProgram>,
+    after: Option<ActiveProgram>,
+}
+
+fn at_work(step: &Step<'_>) -> Option<AtWork> {
+    let subchannel = step.subchannel?;
+    let before = step.before.subchannels.as_slice().get(subchannel)?;
+    let after = step.after.subchannels.as_slice().get(subchannel)?;
+    Some(AtWork {
+        subchannel,
+        before: before.rest().begun,
+        after: after.rest().begun,
+    })
+}
+
+/// What a signal brought that was taken: how many bytes of a write were absorbed, or the bytes of a read.
+fn brought<'a>(step: &'a Step<'_>) -> Option<&'a Load> {
+    match step.reply() {
+        Reply::Up {
+            signal: Up::Data { load, .. },
+            taken: true,
+            ..
+        } => Some(load),
+        _ => None,
+    }
+}
+
+/// The bytes of a read that were stored, the block that took control, and the bytes of a write that were fetched.
+pub(crate) fn add_data<S: Supply>(
+    supply: &mut S,
+    step: &Step<'_>,
+    facts: &mut StepFacts,
+) -> Result<(), AllocError>
+    ensures { facts.new ≡ facts.old }
+{
+    let Some(work) = at_work(step) else {
+        return Ok(());
+    };
+    add_stored(supply, step, &work, facts)?;
+    add_block(supply, step, &work, facts)?;
+    add_fetched(supply, step, &work, facts)
+}
+
+/// Whether the last chunk that a program moved was refused by storage: a check was found by the step.
+fn is_refused(work: &AtWork) -> bool {
+    match (work.before, work.after) {
+        (Some(before), Some(after)) => {
+            before.transfer.fault.is_some()
+                || after.transfer.moving.residual() == before.transfer.moving.residual()
+                    && after.transfer.fault.is_some()
+        }
+        _ => true,
+    }
+}
+
+/// The bytes of a read that were stored: as many as there was room for, where they are not skipped.
+fn add_stored<S: Supply>(
+    supply: &mut S,
+    step: &Step<'_>,
+    work: &AtWork,
+    facts: &mut StepFacts,
+) -> Result<(), AllocError>
+    ensures { facts.new ≡ facts.old }
+{
+    let (Some(Load::Bytes(bytes)), Some(before)) = (brought(step), work.before) else {
+        return Ok(());
+    };
+    let Some(address) = before.transfer.moving.place() else {
+        return Ok(());
+    };
+    let room = usize::from(before.transfer.moving.room());
+    let bytes = bytes.as_slice();
+    let stored = &bytes[..bytes.len().min(room)];
+    if stored.is_empty() || is_refused(work) || !is_new_chunk(work) {
+        return Ok(());
+    }
+    facts.push(
+        supply,
+        Fact::Copy {
+            subchannel: work.subchannel,
+            direction: Direction::Stored,
+            address,
+            bytes: Chunk::of(stored),
+        },
+    )
+}
+
+/// Whether the step went on by a chunk.
+fn is_new_chunk(work: &AtWork) -> bool {
+    match (work.before, work.after) {
+        (Some(before), Some(after)) => before.transfer.sequence != after.transfer.sequence,
+        _ => false,
+    }
+}
+
+/// The block that took control.
+fn add_block<S: Supply>(
+    supply: &mut S,
+    step: &Step<'_>,
+    work: &AtWork,
+    facts: &mut StepFacts,
+) -> Result<(), AllocError>
+    ensures { facts.new ≡ facts.old }
+{
+    let Some(after) = work.after else {
+        return Ok(());
+    };
+    let Some(latest) = after.transfer.walk.latest() else {
+        return Ok(());
+    };
+    let same_command = is_same_command(work);
+    if same_command && is_same_block(step, work) {
+        return Ok(());
+    }
+    facts.push(
+        supply,
+        Fact::Ccw {
+            subchannel: work.subchannel,
+            address: latest.address,
+            format: format_of(&after),
+            ccw: latest.ccw,
+            goes_on: same_command,
+        },
+    )
+}
+
+fn format_of(begun: &ActiveProgram) -> Format {
+    if begun.program.orb.format_one {
+        Format::One
+    } else {
+        Format::Zero
+    }
+}
+
+/// Whether the command at work is that of before.
+fn is_same_command(work: &AtWork) -> bool {
+    match (work.before, work.after) {
+        (Some(before), Some(after)) => {
+            before.program.start == after.program.start
+                && before.transfer.command == after.transfer.command
+        }
+        _ => false,
+    }
+}
+
+/// Whether the block whose data is moved is that of before: it stands at the same address, and as much less of its count is to be
+/// moved as a new chunk moved.
+fn is_same_block(step: &Step<'_>, work: &AtWork) -> bool {
+    match (work.before, work.after) {
+        (Some(before), Some(after)) => {
+            before.transfer.walk.latest() == after.transfer.walk.latest()
+                && is_moved_on(step, work, &before.transfer, &after.transfer)
+        }
+        _ => false,
+    }
+}
+
+fn is_moved_on(step: &Step<'_>, work: &AtWork, before: &Transfer, after: &Transfer) -> bool {
+    let left = before.moving.residual();
+    let moved = match brought(step) {
+        Some(load) if is_new_chunk(work) && before.fault.is_none() => {
+            load.len().min(usize::from(before.moving.room())) as u16
+        }
+        _ => 0,
+    };
+    after.moving.residual() == left - moved.min(left)
+        || after.fault.is_some() && after.moving.residual() == left
+}
+
+/// The bytes of a write that were fetched, and given.
+fn add_fetched<S: Supply>(
+    supply: &mut S,
+    step: &Step<'_>,
+    work: &AtWork,
+    facts: &mut StepFacts,
+) -> Result<(), AllocError>
+    ensures { facts.new ≡ facts.old }
+{
+    let (Reply::Up { sent: Some(on), .. }, Some(after)) = (step.reply(), work.after) else {
+        return Ok(());
+    };
+    let Down::Give { bytes, .. } = &on.signal else {
+        return Ok(());
+    };
+    match after.transfer.moving.place() {
+        Some(address) if bytes.len() != 0 => facts.push(
+            supply,
+            Fact::Copy {
+                subchannel: work.subchannel,
+                direction: Direction::Fetched,
+                address,
+                bytes: bytes.copy(),
+            },
+        ),
+        _ => Ok(()),
+    }
+}

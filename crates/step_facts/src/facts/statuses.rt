@@ -1,0 +1,110 @@
+//! Status that was made and cleared, and why.
+
+ghost use Rattle.std.specs.Prelude.{◌≡◌};
+
+use crate::step::{Step, StepFacts};
+use chan_events::event::Event;
+use chan_events::reply::Reply;
+use chan_model::signal::Up;
+use memory::Supply;
+use std::alloc::AllocError;
+use step_records::record::{Cause, Fact};
+use zbits::{field, flag};
+
+/// What made status pending, as the event, the signal that was met and the status word tell it (SA22-7832, chapter 16).
+pub fn cause_of(event: &Event, reply: &Reply, words: &[u32; 3]) -> Cause {
+    match (event, reply) {
+        (Event::Choose { .. }, _) => chosen_cause(words),
+        (
+            _,
+            Reply::Up {
+                signal: Up::Attn { .. },
+                ..
+            },
+        ) => Cause::Attention,
+        _ if flag(words[0], 19) => Cause::ClearDone,
+        _ if flag(words[2], 14) => Cause::InterfaceControlCheck,
+        _ => program_cause(words),
+    }
+}
+
+/// What choosing made: a program found no path, or the clear or the halt function was performed.
+fn chosen_cause(words: &[u32; 3]) -> Cause {
+    if field(words[0], 6, 7) == 3 {
+        Cause::NoPath
+    } else if flag(words[0], 19) {
+        Cause::ClearDone
+    } else {
+        Cause::HaltDone
+    }
+}
+
+/// What a program shows: without primary and secondary status that it goes on or is suspended, and without device status that
+/// no block could be fetched.
+fn program_cause(words: &[u32; 3]) -> Cause {
+    let ended = flag(words[0], 29) || flag(words[0], 30);
+    if !ended && flag(words[0], 26) {
+        Cause::Suspension
+    } else if !ended {
+        Cause::ProgramControlled
+    } else if field(words[2], 0, 7) == 0 {
+        Cause::FetchFault
+    } else {
+        Cause::End
+    }
+}
+
+/// The statuses that were made.
+pub(crate) fn add_made<S: Supply>(
+    supply: &mut S,
+    step: &Step<'_>,
+    facts: &mut StepFacts,
+) -> Result<(), AllocError>
+    ensures { facts.new ≡ facts.old }
+{
+    let count = step.before.subchannels.len();
+    for subchannel in 0..count.min(step.after.subchannels.len()) {
+        let before = step.before.subchannels[subchannel].rest().serials;
+        let after = &step.after.subchannels[subchannel];
+        let serial = after.rest().serials.made;
+        if before.made < serial {
+            let words = *after.scsw_words();
+            let cause = cause_of(step.event(), step.reply(), &words);
+            facts.push(
+                supply,
+                Fact::StatusMade {
+                    subchannel,
+                    words,
+                    serial,
+                    cause,
+                },
+            )?;
+        }
+    }
+    Ok(())
+}
+
+/// The statuses that were cleared.
+pub(crate) fn add_cleared<S: Supply>(
+    supply: &mut S,
+    step: &Step<'_>,
+    facts: &mut StepFacts,
+) -> Result<(), AllocError>
+    ensures { facts.new ≡ facts.old }
+{
+    let count = step.before.subchannels.len();
+    for subchannel in 0..count.min(step.after.subchannels.len()) {
+        let before = step.before.subchannels[subchannel].rest().serials;
+        let after = step.after.subchannels[subchannel].rest().serials;
+        if before.cleared < after.cleared {
+            facts.push(
+                supply,
+                Fact::StatusCleared {
+                    subchannel,
+                    serial: after.cleared,
+                },
+            )?;
+        }
+    }
+    Ok(())
+}

@@ -1,0 +1,253 @@
+//! How units changed, and what their devices did.
+
+ghost use Rattle.std.specs.Prelude.{◌≡◌};
+
+use crate::step::{Step, StepFacts};
+use chan_events::event::Event;
+use chan_events::reply::Reply;
+use chan_model::chunk::Chunk;
+use chan_model::report::DeviceAnswer;
+use chan_model::signal::Down;
+use chan_model::unit_state::{Connection, CurrentCommand, Own, Progress, UnitState};
+use memory::Supply;
+use std::alloc::AllocError;
+use step_records::parties::Parties;
+use step_records::record::{CommandAtHand, DeviceAct, Fact, Holder, Owner, Place};
+
+fn place_of(connection: Connection) -> Place {
+    match connection {
+        Connection::On { path, .. } => Place::On(path),
+        Connection::Ask { path, .. } => Place::Asks(path),
+        Connection::Away { .. } => Place::Away,
+    }
+}
+
+/// Whom a unit is held by, with the greatest number that it took of either side.
+pub fn owner_of(parties: &Parties, unit: usize, seen: &UnitState) -> Owner {
+    let holder = match seen.own {
+        Own::Idle => None,
+        Own::Owned {
+            side,
+            number,
+            connection,
+        } => match parties.subchannel_of(unit, side) {
+            Some(subchannel) => Some(Holder {
+                number,
+                subchannel,
+                place: place_of(connection),
+            }),
+            None => None,
+        },
+    };
+    Owner {
+        holder,
+        floor: seen.first.floor.max(seen.second.floor),
+    }
+}
+
+/// The command that a unit has at hand; None where it ended.
+pub fn command_of(seen: &UnitState) -> Option<CommandAtHand> {
+    match &seen.current {
+        Some(
+            CurrentCommand {
+                progress: Progress::Ended,
+                ..
+            },
+        )
+        | None => None,
+        Some(current) => Some(CommandAtHand {
+            number: seen.last_command,
+            code: current.code,
+        }),
+    }
+}
+
+/// The units whose owner, floor or command changed, and those that learned that their attention was taken.
+pub(crate) fn add_units<S: Supply>(
+    supply: &mut S,
+    step: &Step<'_>,
+    facts: &mut StepFacts,
+) -> Result<(), AllocError>
+    ensures { facts.new ≡ facts.old }
+{
+    let count = step.before.units.len();
+    for unit in 0..count.min(step.after.units.len()) {
+        let before = owner_of(step.parties, unit, &step.before.units[unit]);
+        let after = owner_of(step.parties, unit, &step.after.units[unit]);
+        if before != after {
+            facts.push(
+                supply,
+                Fact::Owner {
+                    unit,
+                    before,
+                    after,
+                },
+            )?;
+        }
+        add_command(
+            supply,
+            unit,
+            &step.before.units[unit],
+            &step.after.units[unit],
+            facts,
+        )?;
+    }
+    add_attention(supply, step, facts)
+}
+
+/// The command at hand of a unit, where it changed.
+fn add_command<S: Supply>(
+    supply: &mut S,
+    unit: usize,
+    before: &UnitState,
+    after: &UnitState,
+    facts: &mut StepFacts,
+) -> Result<(), AllocError>
+    ensures { facts.new ≡ facts.old }
+{
+    let before = command_of(before);
+    let after = command_of(after);
+    if before == after {
+        return Ok(());
+    }
+    facts.push(
+        supply,
+        Fact::Command {
+            unit,
+            before,
+            after,
+        },
+    )
+}
+
+/// The unit that learned that its attention was taken.
+fn add_attention<S: Supply>(
+    supply: &mut S,
+    step: &Step<'_>,
+    facts: &mut StepFacts,
+) -> Result<(), AllocError>
+    ensures { facts.new ≡ facts.old }
+{
+    let (
+        Reply::Down {
+            signal: Down::Got { attention },
+            taken: true,
+            ..
+        },
+        Some(subchannel),
+    ) = (step.reply(), step.subchannel)
+    else {
+        return Ok(());
+    };
+    match step.parties.subchannels.as_slice().get(subchannel) {
+        Some(setup) => facts.push(
+            supply,
+            Fact::AttentionTaken {
+                unit: usize::from(setup.unit),
+                attention: *attention,
+            },
+        ),
+        None => Ok(()),
+    }
+}
+
+/// The bytes of a write that a device absorbed: so many of those that it had.
+fn absorbed(step: &Step<'_>, unit: usize, count: u16) -> Chunk {
+    match step.before.units.as_slice().get(unit) {
+        Some(
+            UnitState {
+                current: Some(
+                    CurrentCommand {
+                        unabsorbed: Some(bytes),
+                        ..
+                    },
+                ),
+                ..
+            },
+        ) => {
+            let bytes = bytes.as_slice();
+            Chunk::of(&bytes[..bytes.len().min(usize::from(count))])
+        }
+        _ => Chunk::new(),
+    }
+}
+
+/// Whether a unit that began a command asks for the bytes of a write.
+fn asks(step: &Step<'_>, unit: usize) -> bool {
+    match step.after.units.as_slice().get(unit) {
+        Some(
+            UnitState {
+                current: Some(current),
+                ..
+            },
+        ) => current.unanswered.is_some(),
+        _ => false,
+    }
+}
+
+/// What a device did before its unit sent a signal: bytes that moved, or nothing yet; or that it was restarted.
+pub(crate) fn add_first_acts<S: Supply>(
+    supply: &mut S,
+    step: &Step<'_>,
+    facts: &mut StepFacts,
+) -> Result<(), AllocError>
+    ensures { facts.new ≡ facts.old }
+{
+    let (unit, act) = match step.event() {
+        Event::Report { unit, report } => (
+            *unit as usize,
+            first_act(step, *unit as usize, &report.answer),
+        ),
+        Event::Restart { unit } => (*unit as usize, Some(DeviceAct::Restarted)),
+        _ => return Ok(()),
+    };
+    match act {
+        Some(act) => facts.push(supply, Fact::Device { unit, act }),
+        None => Ok(()),
+    }
+}
+
+fn first_act(step: &Step<'_>, unit: usize, answer: &DeviceAnswer) -> Option<DeviceAct> {
+    match answer {
+        DeviceAnswer::Begins if asks(step, unit) => None,
+        DeviceAnswer::Begins => Some(DeviceAct::Nothing),
+        DeviceAnswer::Absorbed(count) => Some(DeviceAct::Absorbed(absorbed(step, unit, *count))),
+        DeviceAnswer::Supplied(bytes) => Some(DeviceAct::Gave(bytes.copy())),
+        DeviceAnswer::Again => Some(DeviceAct::Again),
+        DeviceAnswer::Ended { .. } => None,
+    }
+}
+
+/// What a device did as its unit sent a signal: it asks for the bytes of a write, or ended the command.
+pub(crate) fn add_last_acts<S: Supply>(
+    supply: &mut S,
+    step: &Step<'_>,
+    facts: &mut StepFacts,
+) -> Result<(), AllocError>
+    ensures { facts.new ≡ facts.old }
+{
+    let Event::Report { unit, report } = step.event() else {
+        return Ok(());
+    };
+    let unit = *unit as usize;
+    match &report.answer {
+        DeviceAnswer::Begins if asks(step, unit) => facts.push(
+            supply,
+            Fact::Device {
+                unit,
+                act: DeviceAct::Asks,
+            },
+        ),
+        DeviceAnswer::Ended { status, more } => facts.push(
+            supply,
+            Fact::Device {
+                unit,
+                act: DeviceAct::Ended {
+                    status: *status,
+                    more: *more,
+                },
+            },
+        ),
+        _ => Ok(()),
+    }
+}

@@ -1,5 +1,0 @@
-use Rattle.step_records.specs.Told.{OnlyMoved}
-use Rattle.step_records.proofs.facts.moves.add_lost_on.Given as goal
-
-abbrev pub invariant-loop-index : goal.invariant-loop-index
-invariant-loop-index g l = OnlyMoved l.fn.facts l.facts

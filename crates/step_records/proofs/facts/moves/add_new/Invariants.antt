@@ -1,5 +1,0 @@
-use Rattle.step_records.specs.Told.{OnlyMoved}
-use Rattle.step_records.proofs.facts.moves.add_new.Given as goal
-
-abbrev pub invariant-loop-subchannel : goal.invariant-loop-subchannel
-invariant-loop-subchannel g l = OnlyMoved l.fn.facts l.facts

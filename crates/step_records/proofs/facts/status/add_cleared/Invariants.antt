@@ -1,5 +1,0 @@
-use Rattle.std.proofs.Common.{◌≡◌}
-use Rattle.step_records.proofs.facts.status.add_cleared.Given as goal
-
-abbrev pub invariant-loop-subchannel : goal.invariant-loop-subchannel
-invariant-loop-subchannel g l = l.facts ≡ l.fn.facts

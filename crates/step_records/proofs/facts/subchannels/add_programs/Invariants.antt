@@ -1,8 +1,0 @@
-use Rattle.std.proofs.Common.{◌≡◌}
-use Rattle.step_records.proofs.facts.subchannels.add_programs.Given as goal
-
-abbrev pub invariant-loop-start : goal.invariant-loop-start
-invariant-loop-start g l = l.facts ≡ l.fn.facts
-
-abbrev pub invariant-loop-start-2 : goal.invariant-loop-start-2
-invariant-loop-start-2 g l = l.facts ≡ l.fn.facts
