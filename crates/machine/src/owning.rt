@@ -11,7 +11,6 @@ ghost use Rattle.machine_model.specs.Bounds.{CanCount, CanUnitCount};
 ghost use Rattle.machine_model.specs.Ruled.{GoesByRule};
 ghost use Rattle.machine_model.specs.State as state_spec;
 ghost use Rattle.machine_model.specs.Steps as spec;
-ghost use Rattle.storage_keys.specs.Storage as storage_spec;
 
 use crate::machine::Machine;
 use crate::opening::{opened_machine, opened_storage};
@@ -24,8 +23,7 @@ use memory::Supply;
 use path_select::PathChoice;
 use std::alloc::{AllocError, Global};
 use std::marker::Model;
-use storage_keys::key::Key;
-use storage_keys::{MainStorage, Storage, StorageFault};
+use storage_keys::Storage;
 
 /// A machine, and the storage that it is lent for each of its events.
 #[derive(Drop)]
@@ -70,11 +68,11 @@ impl MachineAndStorage {
         &self.machine
     }
 
-    /// The key of the block of 4,096 bytes in which an absolute address lies. Addressing where it is not in storage.
-    pub fn key_at(&self, address: u32) -> Result<Key, StorageFault>
-        ensures { result ≡ storage_spec.key_at self.now.storage address }
+    /// The storage, to look at.
+    pub fn storage(&self) -> &Storage
+        ensures { result.now ≡ self.now.storage }
     {
-        self.storage.key_at(address)
+        &self.storage
     }
 
     /// Performs one event, with its reply in the log, where it begins an entry; a refusal changes nothing.

@@ -6,8 +6,8 @@ use chan_model::names::{Cpu, Path, Side};
 use chan_model::unit_state::Own;
 use machine::looks::Looks;
 use path_select::Rotating;
-use storage_keys::StorageFault;
 use storage_keys::key::Key;
+use storage_keys::{MainStorage, StorageFault};
 use subsystem::subsystem::Subsystem;
 
 /// The channel path of the subchannel.
@@ -162,11 +162,12 @@ fn shows_keys(subsystem: &mut Subsystem<Rotating>) -> bool {
         address: 0x1234,
         key,
     });
+    let storage = subsystem.storage();
     set.is_ok()
-        && subsystem.key_at(0x0FFF) == Ok(Key::ZERO)
-        && subsystem.key_at(0x1000) == Ok(key)
-        && subsystem.key_at(0x1FFF) == Ok(key)
-        && subsystem.key_at(0x1_0000) == Err(StorageFault::Addressing)
+        && storage.key_at(0x0FFF) == Ok(Key::ZERO)
+        && storage.key_at(0x1000) == Ok(key)
+        && storage.key_at(0x1FFF) == Ok(key)
+        && storage.key_at(0x1_0000) == Err(StorageFault::Addressing)
 }
 
 #[test]
