@@ -1094,8 +1094,11 @@ class Machine:
 
     def hold(self, subchannel: int) -> Hold:
         """What the subsystem takes the device of a subchannel to be held by."""
-        *numbers, phase, path, reset_path, first_path, single_path = self._view("hold", _HOLD, subchannel)
-        return Hold(*numbers, Phase(phase), _index(path), _index(reset_path), _index(first_path), single_path != 0)
+        told = self._view("hold", _HOLD, subchannel)
+        number, connection, seen, restarts, phase, path, reset_path, first_path, single_path = told
+        return Hold(
+            number, connection, seen, restarts, Phase(phase), _index(path), _index(reset_path), _index(first_path), single_path != 0
+        )
 
     def programs(self, subchannel: int) -> Programs:
         """The programs of a subchannel, by the numbers of their starts."""
@@ -1132,7 +1135,11 @@ class Machine:
                 if refused.number == NOT_SENT:
                     return
                 raise
-            yield Signal(*told[:5], SignalKind(told[5]), *told[6:11], told[11] != 0)
+            number, connection, command, sequence, restarts, kind, *rest, more = told
+            code, room, count, absorbed, status = rest
+            yield Signal(
+                number, connection, command, sequence, restarts, SignalKind(kind), code, room, count, absorbed, status, more != 0
+            )
 
     # -- events as text
 
@@ -1154,7 +1161,7 @@ class Machine:
         self._set("history_count", _byref(count))
         return count.value
 
-    def _told(self, name: str, index: int) -> str:
+    def _entry_text(self, name: str, index: int) -> str:
         room = ctypes.create_string_buffer(_ENTRY_ROOM)
         written = ctypes.c_size_t()
         self._set(name, ctypes.c_uint64(index), room, _size(_ENTRY_ROOM), _byref(written))
@@ -1162,11 +1169,11 @@ class Machine:
 
     def history_line(self, index: int) -> str:
         """The event of an entry, from 0, as a line that :meth:`line` performs."""
-        return self._told("history_line", index)
+        return self._entry_text("history_line", index)
 
     def history_reply(self, index: int) -> str:
         """What :meth:`line` answers of the reply of an entry."""
-        return self._told("history_reply", index)
+        return self._entry_text("history_reply", index)
 
     def history(self) -> Iterator[Tuple[str, str]]:
         """The kept entries in order: the line of each event, and its reply."""

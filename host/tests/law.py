@@ -173,11 +173,46 @@ def by_hand() -> None:
     storage.close()
 
 
+def with_history(storage: bytearray, keeps: bool) -> Machine:
+    """A machine with one subchannel, which keeps its history or not."""
+    machine = Machine()
+    machine.add_path(PATH)
+    machine.add_subchannel(WORD, 0x0100, machine.add_unit(Odd()), [PATH])
+    machine.start(storage, history=keeps)
+    return machine
+
+
+def histories() -> None:
+    """A write's history is performed again by another machine, whose answers and storage are the same; then it is let go."""
+    storage, others = bytearray(0x10000), bytearray(0x10000)
+    with with_history(storage, True) as machine, with_history(others, False) as other:
+        machine.put(0x500, bytes.fromhex("000000000080FF0000001000"))
+        machine.put(0x1000, bytes.fromhex("0120000400002000"))
+        machine.put(0x2000, bytes.fromhex("C1C2C3C4"))
+        machine.enable(WORD)
+        expect("START SUBCHANNEL", machine.ssch(WORD, 0x500), 0)
+        machine.run()
+        expect("TEST SUBCHANNEL", machine.tsch(WORD, 0x600), 0)
+        entries = list(machine.history())
+        expect("how many are kept", len(entries), machine.history_count())
+        expect("the first line", entries[0], ("put 500 000000000080FF0000001000", "done"))
+        expect("the start", ("ssch 0 500", "cc 0") in entries, True)
+        expect("the last line", entries[-1], ("tsch 0 600", "cc 0 00C04007 00001008 0C000000"))
+        expect("what a replay answers", [other.line(line).text for line, _ in entries], [reply for _, reply in entries])
+        expect("what a replay stores", others == storage, True)
+        expect("an entry too far", raised(lambda: machine.history_line(len(entries))), filuvamoth.BAD_ARGUMENT)
+        expect("its reply", raised(lambda: machine.history_reply(len(entries))), filuvamoth.BAD_ARGUMENT)
+        expect("the last entry of no history", list(other.history()), entries[-1:])
+        machine.forget()
+        expect("what is let go", list(machine.history()), [])
+
+
 def main() -> int:
     stages()
     errors()
     devices()
     by_hand()
+    histories()
     for it in wrong:
         print(it)
     print(f"checks {checks} otherwise {len(wrong)}")

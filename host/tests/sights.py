@@ -105,10 +105,10 @@ def refusals(machine: Machine) -> None:
     for call in (machine.hold, machine.programs, machine.wires):
         expect(f"{call} of no subchannel", refused(call, WORD + 1), filuvamoth.NO_SUCH_SUBCHANNEL)
     expect("no unit", refused(machine.unit_state, 1), filuvamoth.NO_SUCH_UNIT)
-    for call in (machine.signals_down, machine.signals_up):
-        expect(f"{call} of no subchannel", refused(call, WORD + 1, 0), filuvamoth.NO_SUCH_SUBCHANNEL)
-        expect(f"{call} of no path", refused(call, WORD, 1), filuvamoth.NO_SUCH_PATH)
-        expect(f"{call} where none waits", call(WORD, 0), [])
+    for signals in (machine.signals_down, machine.signals_up):
+        expect(f"{signals} of no subchannel", refused(signals, WORD + 1, 0), filuvamoth.NO_SUCH_SUBCHANNEL)
+        expect(f"{signals} of no path", refused(signals, WORD, 1), filuvamoth.NO_SUCH_PATH)
+        expect(f"{signals} where none waits", signals(WORD, 0), [])
 
 
 def main() -> int:
