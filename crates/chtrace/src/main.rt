@@ -1,6 +1,10 @@
 //! `chtrace`: explains a script for a channel subsystem, which it reads from standard input.
 #![tactic(auto)]
 
+ghost use Rattle.std.specs.Prelude.{◌≡◌};
+ghost use Rattle.std.specs.Process as process_spec;
+ghost use Rattle.chtrace.specs.Outcomes as outcome_spec;
+
 mod gathered;
 mod outcome;
 mod views;
@@ -56,6 +60,13 @@ fn serve(rt: &HostRuntime) -> Result<Outcome, Outcome> {
     }
 }
 
+/// What the process answers.
+fn code_of(outcome: Outcome) -> ExitCode
+    ensures { process_spec.exit_status result ≡ outcome_spec.exit_status outcome }
+{
+    ExitCode::from(outcome.status())
+}
+
 fn main(rt: HostRuntime) -> ExitCode {
     let outcome = match serve(&rt) {
         Ok(outcome) | Err(outcome) => outcome,
@@ -63,5 +74,5 @@ fn main(rt: HostRuntime) -> ExitCode {
     if let Some(line) = outcome.complaint() {
         let _ = rt.eprintln(line);
     }
-    ExitCode::from(outcome.status())
+    code_of(outcome)
 }

@@ -1,4 +1,7 @@
-//! How the program ends.
+//! How the program ends: its exit status, and its line on standard error.
+
+ghost use Rattle.std.specs.Prelude.{◌≡◌, None, Some, MatchOption};
+ghost use Rattle.chtrace.specs.Outcomes as spec;
 
 use trace_runs::TraceFault;
 
@@ -39,7 +42,9 @@ impl From<TraceFault> for Outcome {
 impl Outcome {
     /// The exit status: 0 where all was performed, 1 where an action was refused, or there was no memory or nowhere to write, 2
     /// where words, the script or a line of words are bad or cannot be read, 3 where an audit failed.
-    pub fn status(self) -> u8 {
+    pub fn status(self) -> u8
+        ensures { result ≡ spec.exit_status self }
+    {
         match self {
             Outcome::Done { refused: false } => 0,
             Outcome::Done { refused: true }
@@ -52,7 +57,9 @@ impl Outcome {
     }
 
     /// The line on standard error, where nothing else tells how the program ended.
-    pub fn complaint(self) -> Option<&'static str> {
+    pub fn complaint(self) -> Option<&'static str>
+        ensures { MatchOption result (spec.complaint_of self ≡ None) (λ line. spec.complaint_of self ≡ Some line.now) }
+    {
         match self {
             Outcome::Done { .. } | Outcome::WrongWords | Outcome::Bad => None,
             Outcome::Unread => Some("chtrace: standard input could not be read"),
