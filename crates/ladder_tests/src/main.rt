@@ -1,7 +1,8 @@
-//! Draws stored scripts, and compares the ladder and the states of each with the texts beside it, byte by byte.
+//! Draws stored scripts, and compares the ladder and the states of each, and what explains it, with the texts beside it, byte by byte.
 //!
-//! Its words are folders. For each `NAME.chs` in a folder, in the order of their names, a line is printed for each of `NAME.ladder`
-//! and `NAME.states` that stands there: its name, and the first line in which what is drawn differs from it, where it does.
+//! Its words are folders. For each `NAME.chs` in a folder, in the order of their names, a line is printed for each of `NAME.ladder`,
+//! `NAME.states` and `NAME.explain` that stands there: its name, and the first line in which what is drawn differs from it, where it
+//! does.
 #![tactic(auto)]
 
 use memory::Allocator;
@@ -12,6 +13,7 @@ use step_records::style::{Drawing, StorageLines, Style, Widths};
 use step_records::trace::Trace;
 use stored_texts::{differing_line, names_in};
 use streams::CheckedWriter;
+use trace_explain::put_explained;
 use trace_ladder::put_ladder;
 use trace_runs::trace_script;
 use trace_states::put_states;
@@ -21,6 +23,7 @@ use trace_states::put_states;
 enum View {
     Ladder,
     States,
+    Explain,
 }
 
 /// How the stored texts are drawn.
@@ -38,6 +41,7 @@ fn drawn(alloc: Global, trace: &Trace, view: View) -> Option<Vec<u8>> {
     let whole = match view {
         View::Ladder => put_ladder(&mut sink, trace, style()),
         View::States => put_states(&mut sink, trace, style()),
+        View::Explain => put_explained(&mut sink, trace, style()),
     };
     if whole { Some(sink.writer) } else { None }
 }
@@ -70,6 +74,7 @@ fn tell_view<R: Files + AllocGlobal + Print>(
     let ending = match view {
         View::Ladder => "ladder",
         View::States => "states",
+        View::Explain => "explain",
     };
     let path = format!(in alloc; "{path}.{ending}")?;
     let Ok(wanted) = fs::read(rt, path.as_str()) else {
@@ -90,7 +95,8 @@ fn tell_script<R: Files + AllocGlobal + Print>(rt: &R, path: &str) -> io::Result
     let script = fs::read(rt, format!(in alloc; "{path}.chs")?)?;
     let trace = trace_script(alloc, &mut Allocator { refused: false }, script).ok();
     tell_view(rt, path, trace.as_ref(), View::Ladder)?;
-    tell_view(rt, path, trace.as_ref(), View::States)
+    tell_view(rt, path, trace.as_ref(), View::States)?;
+    tell_view(rt, path, trace.as_ref(), View::Explain)
 }
 
 fn main(rt: HostRuntime) -> io::Result<()> {

@@ -4,6 +4,7 @@
 
 mod objects;
 mod owner_rows;
+mod refusals;
 mod rows;
 mod values;
 

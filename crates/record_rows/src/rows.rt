@@ -2,6 +2,7 @@
 
 use crate::Place;
 use crate::objects::{Object, put_object};
+use crate::refusals::{refusal_name, refused_object};
 use crate::values::put_value;
 use record_text::names::direction_name;
 use record_text::number::put_decimal;
@@ -13,7 +14,7 @@ use streams::Sink;
 /// The row of a fact, which is not the owner of a unit.
 pub(crate) fn put_row<S: Sink>(sink: &mut S, place: &Place<'_>, fact: &Fact) -> bool {
     put_head(sink, place, row_kind(fact), object_of(fact), what_of(fact))
-        && put_value(sink, fact)
+        && put_value(sink, place.parties, fact)
         && sink.put(b"\n")
 }
 
@@ -56,6 +57,7 @@ fn row_kind(fact: &Fact) -> &'static [u8] {
         Fact::Copy { .. } => b"copy",
         Fact::StatusMade { .. } | Fact::StatusCleared { .. } => b"status",
         Fact::Request { .. } => b"request",
+        Fact::Refused(_) => b"refusal",
         _ => b"change",
     }
 }
@@ -63,7 +65,8 @@ fn row_kind(fact: &Fact) -> &'static [u8] {
 /// Of what it tells.
 fn object_of(fact: &Fact) -> Object {
     match fact {
-        Fact::PathState { chpid, .. } => Object::ChannelPath(*chpid),
+        Fact::PathState { chpid, .. } => Object::ChannelPath(u32::from(*chpid)),
+        Fact::Refused(refusal) => refused_object(refusal),
         Fact::Signal { wire, .. } => Object::Wire(*wire),
         Fact::Owner { unit, .. }
         | Fact::Command { unit, .. }
@@ -88,6 +91,7 @@ fn object_of(fact: &Fact) -> Object {
 fn what_of(fact: &Fact) -> &'static [u8] {
     match fact {
         Fact::PathState { .. } => b"path",
+        Fact::Refused(refusal) => refusal_name(refusal),
         Fact::Signal { moved, .. } => moved_name(*moved),
         Fact::Command { .. } => b"command",
         Fact::AttentionTaken { .. } => b"attention",

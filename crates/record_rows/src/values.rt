@@ -1,5 +1,6 @@
 //! The values of rows.
 
+use crate::refusals::put_refusal_fields;
 use ccw_codec::Ccw;
 use record_text::block_words::{ccw_flags, orb_words};
 use record_text::fields::{Field, put_named, put_named_bytes, put_three};
@@ -7,13 +8,15 @@ use record_text::hold_text::put_hold_fields;
 use record_text::number::{put_eight_digits, put_two_digits};
 use record_text::signal_fields::{put_more, put_signal_fields};
 use script_text::{put_bytes, put_word};
+use step_records::parties::Parties;
 use step_records::record::{Cause, CommandAtHand, DeviceAct, Fact};
 use streams::Sink;
 
 /// The value of a fact; of a change what was, and what is.
-pub(crate) fn put_value<S: Sink>(sink: &mut S, fact: &Fact) -> bool {
+pub(crate) fn put_value<S: Sink>(sink: &mut S, parties: &Parties, fact: &Fact) -> bool {
     match fact {
         Fact::PathState { up, .. } => sink.put(if *up { b"down > up" } else { b"up > down" }),
+        Fact::Refused(refusal) => put_refusal_fields(sink, parties, refusal),
         Fact::Signal { signal, .. } => put_signal_fields(sink, signal),
         Fact::Command { before, after, .. } => {
             put_at_hand(sink, before) && sink.put(b" > ") && put_at_hand(sink, after)

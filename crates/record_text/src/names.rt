@@ -7,6 +7,7 @@ ghost use Rattle.record_text.specs.Names as spec;
 
 use crate::fields::put_between;
 use crate::number::{put_hexadecimal, put_two_digits};
+use chan_model::names::Side;
 use channel_config::names::SubchannelId;
 use channel_config::parts::{SubchannelSetup, UnitKind};
 use step_records::parties::Parties;
@@ -48,6 +49,24 @@ pub fn put_subchannel<S: Sink>(sink: &mut S, parties: &Parties, subchannel: usiz
     match parties.subchannels.as_slice().get(subchannel) {
         Some(setup) => put_subchannel_name(sink, setup),
         None => put_hexadecimal(sink, subchannel as u64),
+    }
+}
+
+/// The subchannel that a subsystem-identification word names as a script names it, whether it is configured or not.
+pub fn put_subchannel_word<S: Sink>(sink: &mut S, word: u32) -> bool {
+    let number = if word >> 16 == 1 {
+        word % 0x1_0000
+    } else {
+        word
+    };
+    put_hexadecimal(sink, u64::from(number))
+}
+
+/// The number of a side of a unit, as a script has it.
+pub fn side_number(side: Side) -> u64 {
+    match side {
+        Side::First => 0,
+        Side::Second => 1,
     }
 }
 

@@ -1,183 +1,138 @@
-//! Signals that wait, as they are told of.
+//! Signals that wait.
+
+ghost use Rattle.std.specs.Prelude.{◌≡◌, ◌<◌, ℕ, IfNone, IfSome};
+ghost use Rattle.chan_model.specs.declared.fault.Fault.TheVariants as fault_spec;
+ghost use Rattle.step_records.specs.Refusing.{fault_of};
+ghost use Rattle.step_records.specs.declared.record.Way.TheVariants as way_spec;
+ghost use Rattle.refusal_reasons.specs.Standing.{HasWires, IsElsewhere, IsSo, NoneWaits, WaitsFirst};
 
 use chan_events::event::Event;
-use chan_model::lent::{LentDown, LentUp};
+use chan_model::fault::Fault;
 use chan_model::names::Path;
-use chan_model::signal::{Down, Up};
-use line_reasons::numbers::{put_decimal, put_hex};
+use channel_config::parts::SubchannelSetup;
 use machine::looks::Looks;
-use script_rows::Action;
-use streams::Sink;
+use script_rows::slots::KeptAction;
+use step_records::parties::{Parties, word_of};
+use step_records::record::{Way, Wire};
+use step_records::refusal::{Front, FrontSignal, Refusal};
 use wires::Wires;
 
-/// Where a signal waits.
-#[derive(Clone, Copy, PartialEq, Eq)]
-pub enum Way {
-    Down,
-    Up,
+/// The wires of the subchannel at an index of these set-ups; None where it is not there.
+pub(crate) fn wires_at<'a, L: Looks>(
+    looks: &'a L,
+    setups: &[SubchannelSetup],
+    index: usize,
+) -> Option<&'a Wires>
+    ensures { IfSome result (λ wires. HasWires (L.state looks.now) setups.now index wires.now) }
+{
+    let setup = setups.get(index)?;
+    let subchannel = looks.subchannel(word_of(setup.id))?;
+    Some(&subchannel.wires)
 }
 
-/// A subchannel by its word: by the right half where the left is 1.
-pub fn put_subchannel<S: Sink>(sink: &mut S, word: u32) -> bool {
-    sink.put(b"subchannel ") && put_short_word(sink, word)
-}
-
-/// The word of a subchannel as a script has it.
-fn put_short_word<S: Sink>(sink: &mut S, word: u32) -> bool {
-    if word >> 16 == 1 {
-        put_hex(sink, word % 0x1_0000)
-    } else {
-        put_hex(sink, word)
+/// The signal that waits longest on a wire down.
+fn first_down(wires: &Wires, path: Path) -> Option<FrontSignal>
+    ensures found { IfSome result (λ signal. WaitsFirst wires.now path signal) }
+    ensures none { IfNone result (NoneWaits wires.now way_spec.Down path) }
+{
+    match wires.front_down(path) {
+        Some(signal) => Some(FrontSignal::Down(*signal.kept)),
+        None => None,
     }
 }
 
-/// A name and its number.
-fn put_named<S: Sink>(sink: &mut S, name: &[u8], number: u64) -> bool {
-    sink.put(name) && put_decimal(sink, number)
-}
-
-/// A signal on its way down, and the number that tells it from others.
-fn put_down<S: Sink>(sink: &mut S, signal: &LentDown<'_>) -> bool {
-    match *signal.kept {
-        Down::Select { number } => put_named(sink, b"Select ", number),
-        Down::Command { command, .. } => put_named(sink, b"Command ", command),
-        Down::Grant { connection, .. } => put_named(sink, b"Grant ", connection),
-        Down::Refuse { connection, .. } => put_named(sink, b"Refuse ", connection),
-        Down::Took { sequence, .. } => put_named(sink, b"Took ", sequence),
-        Down::Give { sequence, .. } => put_named(sink, b"Give ", sequence),
-        Down::Halt { number } => put_named(sink, b"Halt ", number),
-        Down::Release { number } => put_named(sink, b"Release ", number),
-        Down::Reset { number, .. } => put_named(sink, b"Reset ", number),
-        Down::Got { attention } => put_named(sink, b"Got ", attention),
+/// The signal that waits longest on a wire up.
+fn first_up(wires: &Wires, path: Path) -> Option<FrontSignal>
+    ensures found { IfSome result (λ signal. WaitsFirst wires.now path signal) }
+    ensures none { IfNone result (NoneWaits wires.now way_spec.Up path) }
+{
+    match wires.front_up(path) {
+        Some(signal) => Some(FrontSignal::Up(*signal.kept)),
+        None => None,
     }
 }
 
-/// A signal on its way up, and the number that tells it from others.
-fn put_up<S: Sink>(sink: &mut S, signal: &LentUp<'_>) -> bool {
-    match *signal.kept {
-        Up::Accept { number } => put_named(sink, b"Accept ", number),
-        Up::Busy { number } => put_named(sink, b"Busy ", number),
-        Up::Leave { connection, .. } => put_named(sink, b"Leave ", connection),
-        Up::Back { connection, .. } => put_named(sink, b"Back ", connection),
-        Up::Data { sequence, .. } => put_named(sink, b"Data ", sequence),
-        Up::End { command, .. } => put_named(sink, b"End of command ", command),
-        Up::Released { number } => put_named(sink, b"Released ", number),
-        Up::Cleared { number, .. } => put_named(sink, b"Cleared ", number),
-        Up::Notice { restarts } => put_named(sink, b"Notice ", restarts),
-        Up::Attn { attention, .. } => put_named(sink, b"Attn ", attention),
-    }
-}
-
-/// Whether a signal waits on a wire.
-pub fn waits(wires: &Wires, way: Way, path: Path) -> bool {
+/// The signal that waits longest on a wire; None where none waits.
+fn first_on(wires: &Wires, way: Way, path: Path) -> Option<FrontSignal>
+    ensures found { IfSome result (λ signal. WaitsFirst wires.now path signal) }
+    ensures none { IfNone result (NoneWaits wires.now way path) }
+{
     match way {
-        Way::Down => wires.front_down(path).is_some(),
-        Way::Up => wires.front_up(path).is_some(),
+        Way::Down => first_down(wires, path),
+        Way::Up => first_up(wires, path),
     }
 }
 
-/// The first path on whose wire, this way, a signal waits.
-pub fn waiting_path(wires: &Wires, way: Way) -> Option<Path> {
+/// The signal that waits longest on the first path on whose wire, this way, a signal waits.
+pub(crate) fn first_this_way(wires: &Wires, way: Way) -> Option<Front>
+    ensures found { IfSome result (λ front. WaitsFirst wires.now front.path front.signal) }
+    ensures none { IfNone result ((path : ℕ) → path < 8 → NoneWaits wires.now way path) }
+{
     for index in 0..8 {
         let path = Path::new(index)?;
-        if waits(wires, way, path) {
-            return Some(path);
+        if let Some(signal) = first_on(wires, way, path) {
+            return Some(Front { path, signal });
         }
     }
     None
 }
 
-/// The signal that waits longest on a wire; nothing where none waits.
-pub fn put_waiting<S: Sink>(sink: &mut S, wires: &Wires, way: Way, path: Path) -> bool {
-    match way {
-        Way::Down => match wires.front_down(path) {
-            Some(signal) => put_down(sink, &signal),
-            None => true,
-        },
-        Way::Up => match wires.front_up(path) {
-            Some(signal) => put_up(sink, &signal),
-            None => true,
-        },
-    }
-}
-
-/// The line by which the signal of a wire is taken.
-pub fn put_line<S: Sink>(sink: &mut S, way: Way, word: u32, path: Path) -> bool {
-    sink.put(match way {
-        Way::Down => b" (down ",
-        Way::Up => b" (up ",
-    }) && put_short_word(sink, word)
-        && sink.put(b" ")
-        && put_decimal(sink, path.index() as u64)
-        && sink.put(b")")
-}
-
-/// A wire of a subchannel.
-fn put_wire<S: Sink>(sink: &mut S, way: Way, path: Path) -> bool {
-    sink.put(match way {
-        Way::Down => b"down path ",
-        Way::Up => b"up path ",
-    }) && put_decimal(sink, path.index() as u64)
-}
-
-/// A signal that waits on another wire of the subchannel.
-fn put_other<S: Sink>(sink: &mut S, wires: &Wires, word: u32, way: Way, path: Path) -> bool {
-    sink.put(b"; ")
-        && put_wire(sink, way, path)
-        && sink.put(b": ")
-        && put_waiting(sink, wires, way, path)
-        && put_line(sink, way, word, path)
-}
-
-/// What waits on the other wires of a subchannel, the way back of the same path first.
-fn put_others<S: Sink>(sink: &mut S, wires: &Wires, word: u32, way: Way, path: Path) -> bool {
+/// What waits on other wires than that of this path this way, on which nothing waits: on that of the way back first.
+fn elsewhere(wires: &Wires, way: Way, path: Path) -> Option<Front>
+    ensures { IsElsewhere wires.now result }
+{
     let back = match way {
         Way::Down => Way::Up,
         Way::Up => Way::Down,
     };
-    if waits(wires, back, path) {
-        return put_other(sink, wires, word, back, path);
+    if let Some(signal) = first_on(wires, back, path) {
+        return Some(Front { path, signal });
     }
-    for way in [Way::Down, Way::Up] {
-        if let Some(path) = waiting_path(wires, way) {
-            return put_other(sink, wires, word, way, path);
-        }
+    match first_this_way(wires, Way::Down) {
+        Some(front) => Some(front),
+        None => first_this_way(wires, Way::Up),
     }
-    sink.put(b"; nor on any other of its wires")
 }
 
-/// A wire on which nothing waits, and what waits on others.
-fn put_empty_wire<S: Sink, L: Looks>(
-    sink: &mut S,
-    looks: &L,
-    word: u32,
-    way: Way,
-    path: u32,
-) -> bool {
-    match (looks.subchannel(word), Path::new(path)) {
-        (Some(subchannel), Some(path)) => {
-            sink.put(b"nothing waits ")
-                && put_wire(sink, way, path)
-                && put_others(sink, &subchannel.wires, word, way, path)
-        }
-        _ => sink.put(b"nothing waits on the wire"),
+/// The wire that an action takes a signal off, where there is that wire.
+fn wire_of(parties: &Parties, action: &KeptAction) -> Option<Wire> {
+    let (word, path, way) = match action {
+        KeptAction::Event(Event::Down { subchannel, path }) => (*subchannel, *path, Way::Down),
+        KeptAction::Event(Event::Up { subchannel, path }) => (*subchannel, *path, Way::Up),
+        _ => return None,
+    };
+    Some(Wire {
+        subchannel: parties.subchannel_named(word)?,
+        path: Path::new(path)?,
+        way,
+    })
+}
+
+/// Why no signal is taken off a wire; None where one waits there.
+fn empty_wire<L: Looks>(looks: &L, parties: &Parties, wire: Wire) -> Option<Refusal>
+    ensures fault { IfSome result (λ refusal. fault_of refusal ≡ fault_spec.NotSent) }
+    ensures so { IfSome result (λ refusal. IsSo (L.state looks.now) parties.now.subchannels.items refusal) }
+{
+    let wires = wires_at(looks, parties.subchannels.as_slice(), wire.subchannel)?;
+    match first_on(wires, wire.way, wire.path) {
+        Some(_) => None,
+        None => Some(Refusal::NothingWaits {
+            wire,
+            elsewhere: elsewhere(wires, wire.way, wire.path),
+        }),
     }
 }
 
 /// Why no signal is taken.
-pub fn put_nothing_waits<S: Sink, L: Looks>(sink: &mut S, looks: &L, action: &Action) -> bool {
-    match action {
-        Action::Event(Event::Down { subchannel, path }) => {
-            put_empty_wire(sink, looks, *subchannel, Way::Down, *path)
-        }
-        Action::Event(Event::Up { subchannel, path }) => {
-            put_empty_wire(sink, looks, *subchannel, Way::Up, *path)
-        }
-        _ => sink.put(b"nothing waits on the wire"),
+pub(crate) fn nothing_waits<L: Looks>(looks: &L, parties: &Parties, action: &KeptAction) -> Refusal
+    ensures fault { fault_of result ≡ fault_spec.NotSent }
+    ensures so { IsSo (L.state looks.now) parties.now.subchannels.items result }
+{
+    let Some(wire) = wire_of(parties, action) else {
+        return Refusal::Bare(Fault::NotSent);
+    };
+    match empty_wire(looks, parties, wire) {
+        Some(refusal) => refusal,
+        None => Refusal::Bare(Fault::NotSent),
     }
-}
-
-/// A wire that is full.
-pub fn put_full<S: Sink>(sink: &mut S) -> bool {
-    sink.put(b"8 signals wait on the wire, and it holds no more")
 }

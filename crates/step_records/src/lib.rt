@@ -3,6 +3,7 @@
 
 pub mod parties;
 pub mod record;
+pub mod refusal;
 pub mod script_lines;
 pub mod signals;
 pub mod style;

@@ -1,5 +1,6 @@
 //! Records: the facts of the steps of a script.
 
+use crate::refusal::Refusal;
 use ccw_codec::{Ccw, Format};
 use chan_model::chunk::Chunk;
 use chan_model::fault::Fault;
@@ -31,6 +32,8 @@ pub enum Fact {
     },
     /// What the line came to: what `chsim` prints after the number of the line is a function of it.
     Answer(Result<ActionResult, Fault>),
+    /// Why the line was refused; it stands behind its answer.
+    Refused(Refusal),
     /// A channel path of this identifier came up or went down.
     PathState {
         chpid: u8,

@@ -3,8 +3,12 @@
 use crate::answer::put_answer;
 use crate::codes::found_by;
 use crate::facts::put_fact;
+use chan_model::fault::Fault;
 use record_text::number::put_decimal;
+use record_text::refusal::put_refusal_reason;
+use script_text::put_refusal;
 use step_records::record::{Fact, Record};
+use step_records::refusal::Refusal;
 use step_records::style::{Drawing, Style};
 use step_records::trace::Trace;
 use streams::Sink;
@@ -28,8 +32,9 @@ fn put_all_explained<S: Sink>(
     drawing: Drawing,
 ) -> bool {
     let mut found = None;
-    for record in records {
-        if !put_record_explained(sink, trace, record, found, drawing) {
+    for (index, record) in records.iter().enumerate() {
+        let reason = reason_in(records.get(index + 1));
+        if !put_record_explained(sink, trace, record, found, reason, drawing) {
             return false;
         }
         found = found_by(&trace.parties, &record.fact);
@@ -37,20 +42,48 @@ fn put_all_explained<S: Sink>(
     true
 }
 
-/// One record, where the one before it told that this was found.
+/// Why a line was refused, where this record tells it.
+fn reason_in(record: Option<&Record>) -> Option<&Refusal> {
+    match &record?.fact {
+        Fact::Refused(refusal) => Some(refusal),
+        _ => None,
+    }
+}
+
+/// One record, where the one before it told that this was found, and the one behind it why its line was refused.
 fn put_record_explained<S: Sink>(
     sink: &mut S,
     trace: &Trace,
     record: &Record,
     found: Option<Found>,
+    reason: Option<&Refusal>,
     drawing: Drawing,
 ) -> bool {
     match &record.fact {
         Fact::Event => put_event(sink, trace, record.line),
-        Fact::Found { .. } => true,
+        Fact::Found { .. } | Fact::Refused(_) => true,
+        Fact::Answer(Err(fault)) => put_refused(sink, trace, fault, reason),
         Fact::Answer(outcome) => { put_answer(sink, trace.text.line(record.line), found, outcome) }
         fact => put_fact(sink, &trace.parties, drawing, fact),
     }
+}
+
+/// The refusal of a line, and what stands there.
+fn put_refused<S: Sink>(
+    sink: &mut S,
+    trace: &Trace,
+    fault: &Fault,
+    reason: Option<&Refusal>,
+) -> bool {
+    sink.put(b"    ")
+        && put_refusal(sink, fault)
+        && match reason {
+            Some(refusal) => {
+                sink.put(b"  ") && put_refusal_reason(sink, &trace.parties, refusal)
+            }
+            None => true,
+        }
+        && sink.put(b"\n")
 }
 
 /// A line of the script, behind its number.

@@ -75,6 +75,7 @@ fn subchannel_texts(fact: &Fact) -> usize {
         | Fact::Request { .. } => 1,
         Fact::Event
         | Fact::Found { .. }
+        | Fact::Refused(_)
         | Fact::Mask { .. }
         | Fact::Functions { .. }
         | Fact::Orb { .. }

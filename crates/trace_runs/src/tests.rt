@@ -62,6 +62,7 @@ fn letter_of(fact: &Fact) -> u8 {
         Fact::Event => b'e',
         Fact::Found { .. } => b'q',
         Fact::Answer(_) => b'a',
+        Fact::Refused(_) => b'z',
         Fact::PathState { .. } => b'p',
         Fact::Signal { moved, .. } => match moved {
             Moved::Sent => b's',

@@ -29,6 +29,7 @@ use machine_sight::sight::Sight;
 use machine_sight::waiting::Waiting;
 use memory::{Supply, make_room};
 use path_select::Rotating;
+use refusal_reasons::refusal_of;
 use script_rows::slots::KeptAction;
 use script_runner::buffers::EventBuffers;
 use script_runner::scripted_machine::{Acted, ScriptedMachine};
@@ -286,7 +287,7 @@ impl<J: MachineBrand> Tracer<J> {
     }
 
     /// Performs the action of a line, and adds what it came to and the facts of what it did. Of an action that is refused there is
-    /// only what it came to. There is no memory only where the supply refused a growth; then the records may lack facts.
+    /// only what it came to, and why. There is no memory only where the supply refused a growth; then the records may lack facts.
     #[tactic(auto, using(crate::proofs::Stepping::stepped_quiet, crate::proofs::Stepping::stepped_told))]
     pub fn step<S: Supply>(
         &mut self,
@@ -313,10 +314,29 @@ impl<J: MachineBrand> Tracer<J> {
                 Ok(Stepped::Looked)
             }
             Err(fault) => {
+                let facts = self.with_reason(supply, facts, action, fault)?;
                 self.add(supply, facts, records)?;
                 Ok(Stepped::Refused(fault))
             }
         }
+    }
+
+    /// These facts of an action that was refused, and why.
+    fn with_reason<S: Supply>(
+        &self,
+        supply: &mut S,
+        facts: StepFacts,
+        action: &KeptAction,
+        fault: Fault,
+    ) -> Result<StepFacts, AllocError>
+        ensures told { IfOk result (λ told. told ≡ facts) }
+        ensures memory { OnErr result (S.refused supply.new ≡ true) }
+    {
+        let machine = self.machine.subsystem();
+        let refusal = refusal_of(machine, machine.storage(), &self.parties, action, fault);
+        let mut facts = facts;
+        facts.push(supply, Fact::Refused(refusal))?;
+        Ok(facts)
     }
 
     /// The room for the facts of a step, emptied.

@@ -60,6 +60,7 @@ abbrev pub has_fact : List ℕ → List SubchannelSetup → List ℕ → Fact �
 has_fact named setups line fact.Event = has_subject named setups (subject_of_line line)
 has_fact named setups line (fact.Found subchannel control enabled) = has_subject named setups (subject_of_line line)
 has_fact named setups line (fact.Answer outcome) = has_subject named setups (subject_of_line line)
+has_fact named setups line (fact.Refused why) = has_subject named setups (subject_of_line line)
 has_fact named setups line (fact.PathState chpid up) = has_path named setups chpid
 has_fact named setups line (fact.Signal wire moved signal) = has_index named setups wire.subchannel
 has_fact named setups line (fact.Hold subchannel before after) = has_index named setups subchannel

@@ -159,7 +159,7 @@ impl Selection {
         ensures { result ≡ spec.has_fact self.now.subchannels.items parties.now.subchannels.items (line_of text.now line) fact.now }
     {
         match fact {
-            Fact::Event | Fact::Found { .. } | Fact::Answer(_) => {
+            Fact::Event | Fact::Found { .. } | Fact::Answer(_) | Fact::Refused(_) => {
                 self.has_subject(parties, subject_of_line(text.line(line)))
             }
             Fact::PathState { chpid, .. } => self.has_path(parties, u32::from(*chpid)),

@@ -8,12 +8,11 @@ use crate::queries::{Looked, put_answer_to};
 use crate::spoken::action_of;
 use crate::stepping::Stepping;
 use crate::talk::{Heard, Talk, Turn};
-use chan_model::fault::Fault;
 use core_lock::naming::MachineBrand;
 use core_lock::supplies::CoreSupply;
 use line_reasons::checker::Checker;
 use record_text::number::put_hexadecimal;
-use refusal_reasons::{Refused, put_refusal_reason};
+use record_text::refusal::put_refusal_reason;
 use script::readable::has_words;
 use script_rows::slots::ActionSlot;
 use script_text::held::Held;
@@ -52,6 +51,16 @@ fn put_code_of<S: Sink>(sink: &mut S, parties: &Parties, line: &[u8], records: &
             return put_code_note(sink, line, found, reply);
         }
         found = found_by(parties, &record.fact);
+    }
+    true
+}
+
+/// Why a line was refused, two blanks before it, where the records tell it.
+fn put_reason_of<S: Sink>(sink: &mut S, parties: &Parties, records: &[Record]) -> bool {
+    for record in records {
+        if let Fact::Refused(refusal) = &record.fact {
+            return sink.put(b"  ") && put_refusal_reason(sink, parties, refusal);
+        }
     }
     true
 }
@@ -129,7 +138,7 @@ impl<R: BufRead + Drop, S: Sink> Talk<'_, R, S> {
             .perform(supply, number, &slot.kept, slot.bytes())?;
         if came == Came::Read {
             self.input.keep(line)?;
-            self.tell_outcome(partner, stepped, line, &slot);
+            self.tell_outcome(partner, stepped, line);
         }
         Ok(())
     }
@@ -141,15 +150,14 @@ impl<R: BufRead + Drop, S: Sink> Talk<'_, R, S> {
         partner: &Partner<J>,
         stepped: Stepped,
         line: &[u8],
-        slot: &ActionSlot,
     ) {
         let records = partner.stepping.records();
         let parties = partner.stepping.tracer().parties();
         let whole = put_outcome_of(self.sink, records)
             && match stepped {
-                Stepped::Refused(fault) => {
+                Stepped::Refused(_) => {
                     self.talked.refused = true;
-                    self.put_refusal(partner, &fault, slot)
+                    put_reason_of(self.sink, parties, records)
                 }
                 Stepped::Accepted | Stepped::Looked => {
                     put_code_of(self.sink, parties, line, records)
@@ -159,24 +167,6 @@ impl<R: BufRead + Drop, S: Sink> Talk<'_, R, S> {
         if !(whole && self.sink.put(b"\n")) {
             self.talked.whole = false;
         }
-    }
-
-    /// Why an action was refused, two blanks before it.
-    fn put_refusal<J: MachineBrand>(
-        &mut self,
-        partner: &Partner<J>,
-        fault: &Fault,
-        slot: &ActionSlot,
-    ) -> bool {
-        let action = slot.kept.with(slot.bytes());
-        let tracer = partner.stepping.tracer();
-        let refused = Refused {
-            action: &action,
-            fault,
-            subchannels: tracer.parties().subchannels.as_slice(),
-            operand: &[],
-        };
-        self.sink.put(b"  ") && put_refusal_reason(self.sink, tracer.subsystem(), &refused)
     }
 
     /// Answers a look.
