@@ -1,5 +1,5 @@
 -- What refusals say of the wires of a machine, and of the bits of an operand.
-use Rattle.std.specs.Prelude.{◌≡◌, ◌≢◌, ◌<◌, ⊤, ℕ, List, slice_get, Option, None, Some}
+use Rattle.std.specs.Prelude.{◌≡◌, ◌≢◌, ◌<◌, ⊤, ℕ, Bool, true, false, List, slice_get, Option, None, Some}
 use Rattle.zbits.specs.Bits.{field_of}
 use Rattle.zbits.specs.Words.{word_at}
 use Rattle.chan_model.specs.Signals.{down_in, up_in}
@@ -50,16 +50,27 @@ pub record IsEmptyWire (state : State) (setups : List SubchannelSetup) (index : 
   pub none : NoneWaits wires way path
   pub others : IsElsewhere wires elsewhere
 
--- a signal waits at a subchannel of a unit
-pub record IsWaiting (state : State) (setups : List SubchannelSetup) (number : ℕ) (index : ℕ) (told : Front) : Type 0 where
+-- a signal waits at the subchannel of an index
+pub record IsWaiting (state : State) (setups : List SubchannelSetup) (index : ℕ) (told : Front) : Type 0 where
   pub wires : Queues
   pub has : HasWires state setups index wires
   pub waits : WaitsFirst wires told.path told.signal
-  pub reaches : has.setup.«unit» ≡ number
+
+-- and that subchannel reaches the unit of this number
+pub record IsWaitingFor (state : State) (setups : List SubchannelSetup) (number index : ℕ) (told : Front) : Type 0 where
+  pub setup : SubchannelSetup
+  pub named : slice_get setups index ≡ Some setup
+  pub reaches : setup.«unit» ≡ number
+  pub waiting : IsWaiting state setups index told
 
 abbrev pub IsUnitSo : State → List SubchannelSetup → ℕ → UnitRefusal → Type 0
-IsUnitSo state setups number (unit_refusal.Signal index told) = IsWaiting state setups number index told
+IsUnitSo state setups number (unit_refusal.Signal index told) = IsWaitingFor state setups number index told
 IsUnitSo state setups number other = ⊤
+
+-- a reason that says nothing of wires
+abbrev pub is_quiet : UnitRefusal → Bool
+is_quiet (unit_refusal.Signal index told) = false
+is_quiet other = true
 
 -- what a refusal says of wires is so
 abbrev pub IsSo : State → List SubchannelSetup → Refusal → Type 0

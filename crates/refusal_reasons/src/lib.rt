@@ -2,8 +2,6 @@
 #![tactic(auto)]
 
 ghost use Rattle.std.specs.Prelude.{◌≡◌};
-ghost use Rattle.machine_model.specs.State.{State};
-ghost use Rattle.channel_config.specs.declared.parts.SubchannelSetup.{SubchannelSetup};
 ghost use Rattle.chan_model.specs.declared.fault.Fault.TheVariants as fault_spec;
 ghost use Rattle.step_records.specs.Refusing.{fault_of};
 ghost use Rattle.refusal_reasons.specs.Standing.{IsSo};

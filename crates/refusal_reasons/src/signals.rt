@@ -109,6 +109,7 @@ fn wire_of(parties: &Parties, action: &KeptAction) -> Option<Wire> {
 }
 
 /// Why no signal is taken off a wire; None where one waits there.
+#[tactic(auto, using(crate::proofs::Waiting::empty_wire))]
 fn empty_wire<L: Looks>(looks: &L, parties: &Parties, wire: Wire) -> Option<Refusal>
     ensures fault { IfSome result (λ refusal. fault_of refusal ≡ fault_spec.NotSent) }
     ensures so { IfSome result (λ refusal. IsSo (L.state looks.now) parties.now.subchannels.items refusal) }

@@ -1,9 +1,9 @@
 //! Units that do not act now.
 
-ghost use Rattle.std.specs.Prelude.{◌≡◌, IfSome};
+ghost use Rattle.std.specs.Prelude.{◌≡◌, IfSome, true};
 ghost use Rattle.chan_model.specs.declared.fault.Fault.TheVariants as fault_spec;
 ghost use Rattle.step_records.specs.Refusing.{fault_of};
-ghost use Rattle.refusal_reasons.specs.Standing.{IsSo, IsUnitSo};
+ghost use Rattle.refusal_reasons.specs.Standing.{IsSo, IsUnitSo, IsWaiting, is_quiet};
 
 use crate::signals::{first_this_way, wires_at};
 use chan_events::event::UnitAct;
@@ -14,44 +14,50 @@ use channel_config::parts::SubchannelSetup;
 use machine::looks::Looks;
 use step_records::parties::Parties;
 use step_records::record::Way;
-use step_records::refusal::{Refusal, UnitRefusal};
+use step_records::refusal::{Front, Refusal, UnitRefusal};
 
 /// A signal that waits this way at the subchannel of an index; None where none does.
-fn signal_at<L: Looks>(
+#[tactic(auto, using(crate::proofs::Waiting::is_waiting))]
+fn front_at<L: Looks>(
     looks: &L,
     setups: &[SubchannelSetup],
     index: usize,
     way: Way,
-) -> Option<UnitRefusal>
-    ensures { IfSome result (λ why. (number : ℕ) → IsSetAt setups.now index number → IsUnitSo (L.state looks.now) setups.now number why) }
+) -> Option<Front>
+    ensures { IfSome result (λ front. IsWaiting (L.state looks.now) setups.now index front) }
 {
     let wires = wires_at(looks, setups, index)?;
     let front = first_this_way(wires, way)?;
-    Some(UnitRefusal::Signal {
-        subchannel: index,
-        front,
-    })
+    Some(front)
 }
 
 /// A signal between a unit and its subchannels that waits this way; None where none does.
+#[tactic(auto, using(crate::proofs::Waiting::waits_for, std::proofs::lemmas::Option::slice_get_read))]
 fn signal_between<L: Looks>(
     looks: &L,
     setups: &[SubchannelSetup],
     unit: u32,
     way: Way,
-) -> Option<UnitRefusal> {
+) -> Option<UnitRefusal>
+    ensures { IfSome result (λ why. IsUnitSo (L.state looks.now) setups.now «unit» why) }
+{
     for index in 0..setups.len() {
         if u32::from(setups[index].unit) == unit
-            && let Some(why) = signal_at(looks, setups, index, way)
+            && let Some(front) = front_at(looks, setups, index, way)
         {
-            return Some(why);
+            return Some(UnitRefusal::Signal {
+                subchannel: index,
+                front,
+            });
         }
     }
     None
 }
 
 /// How far a unit is with its command.
-fn progress_of(state: &UnitState) -> UnitRefusal {
+fn progress_of(state: &UnitState) -> UnitRefusal
+    ensures { is_quiet result ≡ true }
+{
     match &state.current {
         None => UnitRefusal::NoCommand,
         Some(current) => match current.progress {
@@ -62,12 +68,15 @@ fn progress_of(state: &UnitState) -> UnitRefusal {
 }
 
 /// Why the device of a unit has no turn.
+#[tactic(auto, using(crate::proofs::Waiting::quiet_so))]
 fn no_turn<L: Looks>(
     looks: &L,
     setups: &[SubchannelSetup],
     unit: u32,
     state: &UnitState,
-) -> UnitRefusal {
+) -> UnitRefusal
+    ensures { IsUnitSo (L.state looks.now) setups.now «unit» result }
+{
     if let Some(why) = signal_between(looks, setups, unit, Way::Down) {
         return why;
     }
@@ -78,7 +87,9 @@ fn no_turn<L: Looks>(
 }
 
 /// Why the program of a unit does not leave, or asks for no path.
-fn place_of(state: &UnitState) -> UnitRefusal {
+fn place_of(state: &UnitState) -> UnitRefusal
+    ensures { is_quiet result ≡ true }
+{
     match state.own {
         Own::Idle => UnitRefusal::Idle,
         Own::Owned {
@@ -96,7 +107,9 @@ fn is_reached(setups: &[SubchannelSetup], unit: u32, side: Side) -> bool {
 }
 
 /// Why a unit asks a side that a subchannel reaches for no attention.
-fn no_attention(side: Side, state: &UnitState) -> UnitRefusal {
+fn no_attention(side: Side, state: &UnitState) -> UnitRefusal
+    ensures { is_quiet result ≡ true }
+{
     match state.own {
         Own::Owned { number, .. } => UnitRefusal::Held { number },
         Own::Idle => UnitRefusal::NotReset(side),
@@ -104,13 +117,16 @@ fn no_attention(side: Side, state: &UnitState) -> UnitRefusal {
 }
 
 /// Why a unit does not act so now; its device, where no act is named.
+#[tactic(auto, using(crate::proofs::Waiting::quiet_so))]
 fn reason_of<L: Looks>(
     looks: &L,
     setups: &[SubchannelSetup],
     unit: u32,
     act: Option<UnitAct>,
     state: &UnitState,
-) -> UnitRefusal {
+) -> UnitRefusal
+    ensures { IsUnitSo (L.state looks.now) setups.now «unit» result }
+{
     match act {
         None => no_turn(looks, setups, unit, state),
         Some(UnitAct::Leave | UnitAct::Ask { .. }) => place_of(state),
