@@ -1,3 +1,4 @@
 pub mod Following
+pub mod Sameness
 pub mod Seeing
 pub mod Wiring

@@ -1,7 +1,7 @@
 -- When the facts of a step account for all that waits on the wires.
-use Rattle.std.specs.Prelude.{◌≡◌, ◌&&◌, Bool, true, false, List, [], ◌++◌}
+use Rattle.std.specs.Prelude.{◌≡◌, ◌&&◌, ⊤, ℕ, Bool, true, false, List, [], ◌++◌, slice_get, take, Some}
 use Rattle.std.specs.List.{flat_map}
-use Rattle.machine_sight.specs.Waiting.{WaitingQueues, same_wire, waits_on, signal_where}
+use Rattle.machine_sight.specs.Waiting.{HasWire, IsFirst, WaitingQueues, same_wire, waits_on, signal_where}
 use Rattle.machine_sight.specs.declared.balance.Course.{Course}
 use Rattle.machine_sight.specs.declared.balance.Course.TheVariants.{Onto, Off, Aside}
 use Rattle.step_records.specs.declared.record.Fact.{Fact}
@@ -42,3 +42,21 @@ IsBalanced before facts after = (on : Wire) → waits_on before on ++ signals_on
 -- so it is of one fact
 abbrev pub IsFollowed : List WaitingQueues → Fact → List WaitingQueues → Type 0
 IsFollowed before f after = (on : Wire) → waits_on before on ++ signal_of Onto on f ≡ signal_of Off on f ++ waits_on after on
+
+-- whether a fact can be followed: a signal that is sent has a wire, and one that goes off its wire waits there longest
+abbrev pub CanMove : List WaitingQueues → Wire → Signal → Course → Type 0
+CanMove waiting wire signal Onto = HasWire waiting wire
+CanMove waiting wire signal Off = IsFirst waiting wire signal
+CanMove waiting wire signal Aside = ⊤
+
+abbrev pub CanFollow : List WaitingQueues → Fact → Type 0
+CanFollow waiting (fact.Signal wire moved signal) = CanMove waiting wire signal (course_of moved)
+CanFollow waiting other = ⊤
+
+-- the facts before one of them leave this waiting, and that one cannot be followed
+pub record IsStuck (before : List WaitingQueues) (facts : List Record) (waiting : List WaitingQueues) : Type 0 where
+  pub index : ℕ
+  pub stuck : Record
+  pub there : slice_get facts index ≡ Some stuck
+  pub balanced : IsBalanced before (take index facts) waiting
+  pub cannot : CanFollow waiting stuck.fact → ⊥

@@ -1,5 +1,5 @@
 -- What waits on the wires of each subchannel, as it is told.
-use Rattle.std.specs.Prelude.{◌≡◌, ◌==◌, ℕ, Bool, true, false, ◌&&◌, List, [], ◌∷◌, ◌++◌, slice_get, Option, None, Some}
+use Rattle.std.specs.Prelude.{◌≡◌, ◌<◌, ◌==◌, ℕ, Bool, true, false, ◌&&◌, List, [], ◌∷◌, ◌++◌, length, replicate, slice_get, Option, None, Some}
 use Rattle.wires.specs.Queues.{queue}
 use Rattle.step_records.specs.declared.record.Signal.{Signal}
 use Rattle.step_records.specs.declared.record.Way.{Way}
@@ -34,6 +34,22 @@ same_way Up Down = false
 
 abbrev pub same_wire : Wire → Wire → Bool
 same_wire one other = (one.subchannel == other.subchannel) && (same_way one.way other.way && (one.path == other.path))
+
+-- no signal waits, on any of the eight paths
+abbrev pub no_queues : WaitingQueues
+no_queues = record { down = replicate 8 []; up = replicate 8 [] }
+
+-- the queues of a way, by path, and whether a wire is there
+abbrev pub queues_at : Option WaitingQueues → Way → List (List Signal)
+queues_at None way = []
+queues_at (Some sub) way = queues_of way sub
+
+abbrev pub HasWire : List WaitingQueues → Wire → Type 0
+HasWire waiting on = on.path < length (queues_at (slice_get waiting on.subchannel) on.way)
+
+-- the signal that waits longest on a wire is this one
+abbrev pub IsFirst : List WaitingQueues → Wire → Signal → Type 0
+IsFirst waiting on signal = slice_get (waits_on waiting on) 0 ≡ Some signal
 
 -- a signal, where it is asked for
 abbrev pub signal_where : Bool → Signal → List Signal

@@ -1,8 +1,9 @@
 //! What waits on the wires follows the facts of a step.
 
 ghost use Rattle.std.specs.Prelude.{◌≡◌, ◌↔◌, IfOk, IsTrue, OnErr, OnOk, true};
+ghost use Rattle.std.specs.Bool.{OnFalse};
 ghost use Rattle.machine_sight.specs.Balance as spec;
-ghost use Rattle.machine_sight.specs.Balance.{IsBalanced, IsFollowed};
+ghost use Rattle.machine_sight.specs.Balance.{CanFollow, IsBalanced, IsFollowed, IsStuck};
 
 use crate::waiting::Waiting;
 use memory::Supply;
@@ -35,7 +36,9 @@ impl Waiting {
     /// Follows a fact, and answers whether that could be: a signal that goes off its wire waited there longest.
     #[tactic(auto, using(crate::proofs::Following::followed_put, crate::proofs::Following::followed_taken, crate::proofs::Following::followed_aside))]
     fn follow_one<S: Supply>(&mut self, supply: &mut S, fact: &Fact) -> Result<bool, AllocError>
+        ensures can { IfOk result (λ followed. IsTrue followed ↔ CanFollow self.old fact.now) }
         ensures followed { IfOk result (λ followed. IsTrue followed → IsFollowed self.old fact.now self.new) }
+        ensures kept { IfOk result (λ followed. OnFalse followed (self.new ≡ self.old)) }
         ensures unrefused { OnOk result (S.refused supply.new ≡ S.refused supply.old) }
         ensures memory { OnErr result (S.refused supply.new ≡ true) }
     {
@@ -45,7 +48,7 @@ impl Waiting {
                 moved,
                 signal,
             } => match course_of(*moved) {
-                Course::Onto => self.put(supply, wire, signal.copy()),
+                Course::Onto => self.put(supply, wire, signal),
                 Course::Off => Ok(self.take(wire, signal)),
                 Course::Aside => Ok(true),
             },
@@ -62,6 +65,7 @@ impl Waiting {
         records: &[Record],
     ) -> Result<bool, AllocError>
         ensures balanced { IfOk result (λ followed. IsTrue followed → IsBalanced self.old records.now self.new) }
+        ensures stuck { IfOk result (λ followed. OnFalse followed (IsStuck self.old records.now self.new)) }
         ensures unrefused { OnOk result (S.refused supply.new ≡ S.refused supply.old) }
         ensures memory { OnErr result (S.refused supply.new ≡ true) }
     {

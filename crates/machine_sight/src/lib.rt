@@ -3,6 +3,7 @@
 #![tactic(auto)]
 
 pub mod balance;
+mod comparing;
 pub mod looking;
 pub mod sight;
 pub mod waiting;

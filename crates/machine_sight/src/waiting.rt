@@ -1,13 +1,16 @@
 //! What waits on the wires of each subchannel: signals are put in and taken out as the facts of steps tell it.
 
-ghost use Rattle.std.specs.Prelude.{◌≡◌, ◌<◌, IfOk, IsTrue, None, OnErr, OnOk, Some, drop, length, slice_get, true};
+ghost use Rattle.std.specs.Prelude.{◌≡◌, ◌<◌, ◌↔◌, [], IfOk, IsTrue, None, OnErr, OnOk, Some, drop, length, replicate, slice_get, true};
+ghost use Rattle.std.specs.Bool.{OnFalse};
 ghost use Rattle.machine_sight.specs.Shown as shown_spec;
 ghost use Rattle.machine_sight.specs.Waiting as spec;
 ghost use Rattle.machine_sight.specs.Shown.{TellsWaiting, TellsWires};
-ghost use Rattle.machine_sight.specs.Waiting.{IsPut, IsPutIn, IsTaken, IsTakenIn};
-ghost use Rattle.wires.specs.Queues.{first_of, sent, taken};
+ghost use Rattle.machine_sight.specs.Waiting.{HasWire, IsFirst, IsPut, IsPutIn, IsTaken, IsTakenIn};
+ghost use Rattle.wires.specs.Queues.{first_of, queue, sent, taken};
 
+use crate::comparing::{is_same, is_same_down, is_same_up};
 use chan_model::names::Path;
+use chan_model::signal::{Down, Up};
 use machine::looks::Looks;
 use memory::{Supply, push};
 use std::alloc::{AllocError, Global};
@@ -70,6 +73,7 @@ fn same_way(one: Way, other: Way) -> bool
 
 /// No signal waits, on any of the eight paths.
 fn no_queues<S: Supply>(alloc: Global, supply: &mut S) -> Result<Vec<WaitingSignals>, AllocError>
+    ensures made { IfOk result (λ queues. queues.items ≡ replicate 8 []) }
     ensures unrefused { OnOk result (S.refused supply.new ≡ S.refused supply.old) }
     ensures memory { OnErr result (S.refused supply.new ≡ true) }
 {
@@ -91,22 +95,26 @@ fn put_in<S: Supply>(
     supply: &mut S,
     queues: &mut Vec<WaitingSignals>,
     path: Path,
-    signal: Signal,
+    signal: &Signal,
 ) -> Result<bool, AllocError>
-    ensures put { IfOk result (λ put. IsTrue put → (path < length queues.old.items) × (queues.new.items ≡ sent queues.old.items path signal)) }
+    ensures there { IfOk result (λ put. IsTrue put ↔ (path < length queues.old.items)) }
+    ensures put { IfOk result (λ put. IsTrue put → queues.new.items ≡ sent queues.old.items path signal.now) }
+    ensures kept { IfOk result (λ put. OnFalse put (queues.new.items ≡ queues.old.items)) }
     ensures unrefused { OnOk result (S.refused supply.new ≡ S.refused supply.old) }
     ensures memory { OnErr result (S.refused supply.new ≡ true) }
 {
     if path.index() >= queues.len() {
         return Ok(false);
     }
-    push(supply, &mut queues[path.index()].signals, signal)?;
+    push(supply, &mut queues[path.index()].signals, signal.copy())?;
     Ok(true)
 }
 
 /// Takes out the signal that waits longest on a path, and answers whether it is this one.
 fn take_in(queues: &mut Vec<WaitingSignals>, path: Path, signal: &Signal) -> bool
-    ensures { IsTrue result → (path < length queues.old.items) × ((first_of queues.old.items path ≡ Some signal.now) × (queues.new.items ≡ taken queues.old.items path)) }
+    ensures first { IsTrue result ↔ (first_of queues.old.items path ≡ Some signal.now) }
+    ensures taken { IsTrue result → (path < length queues.old.items) × (queues.new.items ≡ taken queues.old.items path) }
+    ensures kept { OnFalse result (queues.new.items ≡ queues.old.items) }
 {
     if path.index() >= queues.len() {
         return false;
@@ -116,12 +124,18 @@ fn take_in(queues: &mut Vec<WaitingSignals>, path: Path, signal: &Signal) -> boo
 
 /// Takes out the first signal, and answers whether it is this one.
 fn take_first(signals: &mut Vec<Signal>, signal: &Signal) -> bool
-    ensures { IsTrue result → (slice_get signals.old.items 0 ≡ Some signal.now) × (signals.new.items ≡ drop 1 signals.old.items) }
+    ensures first { IsTrue result ↔ (slice_get signals.old.items 0 ≡ Some signal.now) }
+    ensures taken { IsTrue result → signals.new.items ≡ drop 1 signals.old.items }
+    ensures kept { OnFalse result (signals.new.items ≡ signals.old.items) }
 {
-    if signals.is_empty() || !signals[0].same(signal) {
+    if signals.is_empty() || !is_same(&signals[0], signal) {
         return false;
     }
-    let _ = signals.remove(0);
+    if signals.len() == 1 {
+        signals.clear();
+    } else {
+        let _ = signals.remove(0);
+    }
     true
 }
 
@@ -142,8 +156,9 @@ pub fn signal_at(wires: &Wires, way: Way, path: Path, index: usize) -> Option<Si
 }
 
 /// Whether no signal of this index waits on a wire of a path.
-fn is_past(wires: &Wires, way: Way, path: Path, index: usize) -> bool
-    ensures { IsTrue result → slice_get (shown_spec.told_on wires.now way path) index ≡ None }
+#[inline(always)]
+pub fn is_past(wires: &Wires, way: Way, path: Path, index: usize) -> bool
+    ensures { IsTrue result ↔ (slice_get (shown_spec.told_on wires.now way path) index ≡ None) }
 {
     match way {
         Way::Down => wires.down_at(path, index).is_none(),
@@ -151,20 +166,43 @@ fn is_past(wires: &Wires, way: Way, path: Path, index: usize) -> bool
     }
 }
 
-/// Whether this is the signal of this index that waits on a wire of a path.
-#[inline(never)]
-fn is_at(wires: &Wires, way: Way, path: Path, index: usize, signal: &Signal) -> bool
-    ensures { IsTrue result → slice_get (shown_spec.told_on wires.now way path) index ≡ Some signal.now }
+/// Whether this is the signal of this index that waits on the wire down of a path.
+fn is_down_at(wires: &Wires, path: Path, index: usize, signal: &Down) -> bool
+    ensures { IsTrue result ↔ (slice_get (queue wires.now.down path) index ≡ Some signal.now) }
 {
-    match signal_at(wires, way, path, index) {
-        Some(found) => found.same(signal),
+    match wires.down_at(path, index) {
+        Some(found) => is_same_down(&found, signal),
         None => false,
     }
 }
 
+/// Whether this is the signal of this index that waits on the wire up of a path.
+fn is_up_at(wires: &Wires, path: Path, index: usize, signal: &Up) -> bool
+    ensures { IsTrue result ↔ (slice_get (queue wires.now.up path) index ≡ Some signal.now) }
+{
+    match wires.up_at(path, index) {
+        Some(found) => is_same_up(&found, signal),
+        None => false,
+    }
+}
+
+/// Whether this is the signal of this index that waits on a wire of a path.
+#[inline(never)]
+#[tactic(auto, using(crate::proofs::Seeing::down_at, crate::proofs::Seeing::up_at, crate::proofs::Seeing::no_up_at, crate::proofs::Seeing::no_down_at))]
+fn is_at(wires: &Wires, way: Way, path: Path, index: usize, signal: &Signal) -> bool
+    ensures { IsTrue result ↔ (slice_get (shown_spec.told_on wires.now way path) index ≡ Some signal.now) }
+{
+    match (way, signal) {
+        (Way::Down, Signal::Down(signal)) => is_down_at(wires, path, index, signal),
+        (Way::Up, Signal::Up(signal)) => is_up_at(wires, path, index, signal),
+        _ => false,
+    }
+}
+
 /// Whether these are the signals that wait on a wire of a path.
+#[inline(always)]
 fn are_told(wires: &Wires, way: Way, path: Path, signals: &[Signal]) -> bool
-    ensures { IsTrue result → signals.now ≡ shown_spec.told_on wires.now way path }
+    ensures { IsTrue result ↔ (signals.now ≡ shown_spec.told_on wires.now way path) }
 {
     for index in 0..signals.len() {
         if !is_at(wires, way, path, index, &signals[index]) {
@@ -176,6 +214,7 @@ fn are_told(wires: &Wires, way: Way, path: Path, signals: &[Signal]) -> bool
 
 impl WaitingWires {
     /// The signals that wait on a wire, the oldest first.
+    #[inline(always)]
     fn signals(&self, way: Way, path: Path) -> &[Signal]
         ensures { result.now ≡ spec.waits_in self.now way path }
     {
@@ -196,9 +235,11 @@ impl WaitingWires {
         supply: &mut S,
         way: Way,
         path: Path,
-        signal: Signal,
+        signal: &Signal,
     ) -> Result<bool, AllocError>
-        ensures put { IfOk result (λ put. IsTrue put → IsPutIn self.old way path signal self.new) }
+        ensures there { IfOk result (λ put. IsTrue put ↔ (path < length (spec.queues_of way self.old))) }
+        ensures put { IfOk result (λ put. IsTrue put → IsPutIn self.old way path signal.now self.new) }
+        ensures kept { IfOk result (λ put. OnFalse put (self.new ≡ self.old)) }
         ensures unrefused { OnOk result (S.refused supply.new ≡ S.refused supply.old) }
         ensures memory { OnErr result (S.refused supply.new ≡ true) }
     {
@@ -211,7 +252,9 @@ impl WaitingWires {
     /// Takes out the signal that waits longest on a wire, and answers whether it is this one.
     #[tactic(auto, using(crate::proofs::Wiring::takes_down, crate::proofs::Wiring::takes_up))]
     fn take(&mut self, way: Way, path: Path, signal: &Signal) -> bool
-        ensures { IsTrue result → IsTakenIn self.old way path signal.now self.new }
+        ensures first { IsTrue result ↔ (slice_get (spec.waits_in self.old way path) 0 ≡ Some signal.now) }
+        ensures taken { IsTrue result → IsTakenIn self.old way path signal.now self.new }
+        ensures kept { OnFalse result (self.new ≡ self.old) }
     {
         match way {
             Way::Down => take_in(&mut self.down, path, signal),
@@ -221,15 +264,16 @@ impl WaitingWires {
 
     /// Whether these are the signals that wait on the wires of a subchannel.
     fn tells(&self, wires: &Wires) -> bool
-        ensures { IsTrue result → TellsWires wires.now self.now }
+        ensures { IsTrue result ↔ TellsWires wires.now self.now }
     {
         for index in 0..8u32 {
             let Some(path) = Path::new(index) else {
                 return false;
             };
-            if !(are_told(wires, Way::Down, path, self.signals(Way::Down, path))
-                && are_told(wires, Way::Up, path, self.signals(Way::Up, path)))
-            {
+            if !are_told(wires, Way::Down, path, self.signals(Way::Down, path)) {
+                return false;
+            }
+            if !are_told(wires, Way::Up, path, self.signals(Way::Up, path)) {
                 return false;
             }
         }
@@ -244,6 +288,7 @@ impl Waiting {
         supply: &mut S,
         count: usize,
     ) -> Result<Waiting, AllocError>
+        ensures made { IfOk result (λ waiting. waiting ≡ replicate count spec.no_queues) }
         ensures unrefused { OnOk result (S.refused supply.new ≡ S.refused supply.old) }
         ensures memory { OnErr result (S.refused supply.new ≡ true) }
     {
@@ -271,9 +316,11 @@ impl Waiting {
         &mut self,
         supply: &mut S,
         wire: &Wire,
-        signal: Signal,
+        signal: &Signal,
     ) -> Result<bool, AllocError>
-        ensures put { IfOk result (λ put. IsTrue put → IsPut self.old wire.now signal self.new) }
+        ensures there { IfOk result (λ put. IsTrue put ↔ HasWire self.old wire.now) }
+        ensures put { IfOk result (λ put. IsTrue put → IsPut self.old wire.now signal.now self.new) }
+        ensures kept { IfOk result (λ put. OnFalse put (self.new ≡ self.old)) }
         ensures unrefused { OnOk result (S.refused supply.new ≡ S.refused supply.old) }
         ensures memory { OnErr result (S.refused supply.new ≡ true) }
     {
@@ -285,7 +332,9 @@ impl Waiting {
 
     /// Takes out the signal that waits longest on a wire, and answers whether it is this one.
     pub fn take(&mut self, wire: &Wire, signal: &Signal) -> bool
-        ensures { IsTrue result → IsTaken self.old wire.now signal.now self.new }
+        ensures first { IsTrue result ↔ IsFirst self.old wire.now signal.now }
+        ensures taken { IsTrue result → IsTaken self.old wire.now signal.now self.new }
+        ensures kept { OnFalse result (self.new ≡ self.old) }
     {
         if wire.subchannel >= self.subchannels.len() {
             return false;
@@ -293,15 +342,16 @@ impl Waiting {
         self.subchannels[wire.subchannel].take(wire.way, wire.path, signal)
     }
 
-    /// Whether these are the signals that wait at a machine.
+    /// Whether these are the signals that wait at a machine, and there are wires of each of its subchannels.
     pub fn tells<L: Looks>(&self, looks: &L, parties: &Parties) -> bool
-        ensures { IsTrue result → TellsWaiting (L.state looks.now) parties.now.subchannels.items self.now }
+        ensures told { IsTrue result → TellsWaiting (L.state looks.now) parties.now.subchannels.items self.now }
+        ensures untold { OnFalse result (TellsWaiting (L.state looks.now) parties.now.subchannels.items self.now → length self.now < length parties.now.subchannels.items) }
     {
         for index in 0..parties.subchannels.len() {
-            let (Some(own), Some(sub)) = (
-                self.subchannels.as_slice().get(index),
-                looks.subchannel(word_of(parties.subchannels[index].id)),
-            ) else {
+            let Some(own) = self.subchannels.as_slice().get(index) else {
+                return false;
+            };
+            let Some(sub) = looks.subchannel(word_of(parties.subchannels[index].id)) else {
                 return false;
             };
             if !own.tells(&sub.wires) {

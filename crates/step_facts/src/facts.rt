@@ -1,6 +1,7 @@
 //! The facts of one step.
 
-ghost use Rattle.std.specs.Prelude.{◌≡◌, ◌++◌, ℕ, OnOk, Some, true};
+ghost use Rattle.machine_sight.specs.declared.looking.SightFault.TheVariants as fault_spec;
+ghost use Rattle.std.specs.Prelude.{◌≡◌, ◌++◌, ℕ, OnOk, Some, true, OnErr, Err};
 ghost use Rattle.step_facts.specs.Holds.{all_hold_changes};
 ghost use Rattle.step_facts.specs.Moves.{is_told_by_reply, met_of, sent_of};
 ghost use Rattle.step_facts.specs.Told.{OnlyHeld, with_holds};
@@ -14,8 +15,9 @@ pub mod subchannels;
 pub mod units;
 
 use crate::requests::Requests;
-use crate::step::{FactFault, Step, StepFacts};
+use crate::step::{Step, StepFacts};
 use machine::looks::Looks;
+use machine_sight::looking::SightFault;
 use memory::Supply;
 use std::alloc::AllocError;
 
@@ -27,12 +29,14 @@ pub fn add_facts<S: Supply, L: Looks>(
     looks: &L,
     requests: &mut Requests,
     facts: &mut StepFacts,
-) -> Result<(), FactFault>
-    ensures moves { OnOk result ((sub : ℕ) → step.now.subchannel ≡ Some sub → is_told_by_reply step.now.entry.now.event ≡ true →
-        facts.new.moves ≡ facts.old.moves ++ (met_of sub step.now.entry.now.event step.now.entry.now.reply ++ sent_of step.now.before.now sub step.now.entry.now.reply)) }
+) -> Result<(), SightFault>
+    ensures moves { OnOk result ((sub : ℕ) → step.now.subchannel ≡ Some sub → is_told_by_reply step.now.event.now ≡ true →
+        facts.new.moves ≡ facts.old.moves ++ (met_of sub step.now.event.now step.now.reply.now ++ sent_of step.now.before.now sub step.now.reply.now)) }
     ensures holds { OnOk result (facts.new.holds ≡ facts.old.holds ++ all_hold_changes step.now.before.now.subchannels.items step.now.after.now.subchannels.items) }
     ensures answers { OnOk result (facts.new.answers ≡ facts.old.answers) }
     ensures line { OnOk result (facts.new.line ≡ facts.old.line) }
+    ensures unrefused { OnOk result (S.refused supply.new ≡ S.refused supply.old) }
+    ensures memory { result ≡ Err fault_spec.NoMemory → S.refused supply.new ≡ true }
 {
     channel_paths::add_paths(supply, step, facts)?;
     moves::add_met(supply, step, facts)?;
@@ -53,6 +57,8 @@ fn add_inner_facts<S: Supply>(
 ) -> Result<(), AllocError>
     ensures holds { OnOk result (facts.new ≡ with_holds facts.old (all_hold_changes step.now.before.now.subchannels.items step.now.after.now.subchannels.items)) }
     ensures only { OnlyHeld facts.old facts.new }
+    ensures unrefused { OnOk result (S.refused supply.new ≡ S.refused supply.old) }
+    ensures memory { OnErr result (S.refused supply.new ≡ true) }
 {
     holds::add_holds(supply, step, false, facts)?;
     units::add_first_acts(supply, step, facts)?;

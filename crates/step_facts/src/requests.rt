@@ -1,6 +1,6 @@
 //! The requests for I/O interruptions that wait: of each subchannel the subclass of its request.
 
-ghost use Rattle.std.specs.Prelude.{◌≡◌};
+ghost use Rattle.std.specs.Prelude.{◌≡◌, OnErr, OnOk, true};
 
 use crate::step::{Step, StepFacts};
 use chan_events::event::{Event, Instruction};
@@ -31,15 +31,40 @@ fn drops(instruction: Instruction, reply: &Reply) -> bool {
     }
 }
 
+#[inline(never)]
+fn push_request<S: Supply>(
+    supply: &mut S,
+    subchannel: usize,
+    subclass: u8,
+    change: RequestChange,
+    facts: &mut StepFacts,
+) -> Result<(), AllocError>
+    ensures kept { facts.new ≡ facts.old }
+    ensures unrefused { OnOk result (S.refused supply.new ≡ S.refused supply.old) }
+    ensures memory { OnErr result (S.refused supply.new ≡ true) }
+{
+    facts.push(
+        supply,
+        Fact::Request {
+            subchannel,
+            subclass,
+            change,
+        },
+    )
+}
+
 impl Requests {
     /// No request waits, of so many subchannels.
     pub fn none<S: Supply>(
         alloc: Global,
         supply: &mut S,
         count: usize,
-    ) -> Result<Requests, AllocError> {
+    ) -> Result<Requests, AllocError>
+        ensures unrefused { OnOk result (S.refused supply.new ≡ S.refused supply.old) }
+        ensures memory { OnErr result (S.refused supply.new ≡ true) }
+    {
         let mut standing = Vec::new(alloc);
-        for _ in 0..count {
+        for _subchannel in 0..count {
             push(supply, &mut standing, None)?;
         }
         Ok(Requests { standing })
@@ -63,7 +88,9 @@ impl Requests {
         step: &Step<'_>,
         facts: &mut StepFacts,
     ) -> Result<(), AllocError>
-        ensures { facts.new ≡ facts.old }
+        ensures kept { facts.new ≡ facts.old }
+        ensures unrefused { OnOk result (S.refused supply.new ≡ S.refused supply.old) }
+        ensures memory { OnErr result (S.refused supply.new ≡ true) }
     {
         match (step.event(), step.reply()) {
             (Event::SystemReset, _) => self.drop_all(supply, facts)?,
@@ -86,7 +113,9 @@ impl Requests {
         change: RequestChange,
         facts: &mut StepFacts,
     ) -> Result<(), AllocError>
-        ensures { facts.new ≡ facts.old }
+        ensures kept { facts.new ≡ facts.old }
+        ensures unrefused { OnOk result (S.refused supply.new ≡ S.refused supply.old) }
+        ensures memory { OnErr result (S.refused supply.new ≡ true) }
     {
         let Some(standing) = self.standing.as_mut_slice().get_mut(subchannel) else {
             return Ok(());
@@ -95,14 +124,7 @@ impl Requests {
             return Ok(());
         };
         *standing = None;
-        facts.push(
-            supply,
-            Fact::Request {
-                subchannel,
-                subclass,
-                change,
-            },
-        )
+        push_request(supply, subchannel, subclass, change, facts)
     }
 
     /// All requests go.
@@ -111,7 +133,9 @@ impl Requests {
         supply: &mut S,
         facts: &mut StepFacts,
     ) -> Result<(), AllocError>
-        ensures { facts.new ≡ facts.old }
+        ensures kept { facts.new ≡ facts.old }
+        ensures unrefused { OnOk result (S.refused supply.new ≡ S.refused supply.old) }
+        ensures memory { OnErr result (S.refused supply.new ≡ true) }
     {
         for subchannel in 0..self.standing.len() {
             self.take(supply, subchannel, RequestChange::Dropped, facts)?;
@@ -127,7 +151,9 @@ impl Requests {
         code: IntCode,
         facts: &mut StepFacts,
     ) -> Result<(), AllocError>
-        ensures { facts.new ≡ facts.old }
+        ensures kept { facts.new ≡ facts.old }
+        ensures unrefused { OnOk result (S.refused supply.new ≡ S.refused supply.old) }
+        ensures memory { OnErr result (S.refused supply.new ≡ true) }
     {
         let id = SubchannelId {
             set: code.set,
@@ -146,7 +172,9 @@ impl Requests {
         step: &Step<'_>,
         facts: &mut StepFacts,
     ) -> Result<(), AllocError>
-        ensures { facts.new ≡ facts.old }
+        ensures kept { facts.new ≡ facts.old }
+        ensures unrefused { OnOk result (S.refused supply.new ≡ S.refused supply.old) }
+        ensures memory { OnErr result (S.refused supply.new ≡ true) }
     {
         let count = step.before.subchannels.len();
         for subchannel in 0..count.min(step.after.subchannels.len()) {
@@ -167,19 +195,14 @@ impl Requests {
         subclass: u8,
         facts: &mut StepFacts,
     ) -> Result<(), AllocError>
-        ensures { facts.new ≡ facts.old }
+        ensures kept { facts.new ≡ facts.old }
+        ensures unrefused { OnOk result (S.refused supply.new ≡ S.refused supply.old) }
+        ensures memory { OnErr result (S.refused supply.new ≡ true) }
     {
         match self.standing.as_mut_slice().get_mut(subchannel) {
             Some(standing) if standing.is_none() => {
                 *standing = Some(subclass);
-                facts.push(
-                    supply,
-                    Fact::Request {
-                        subchannel,
-                        subclass,
-                        change: RequestChange::Posted,
-                    },
-                )
+                push_request(supply, subchannel, subclass, RequestChange::Posted, facts)
             }
             _ => Ok(()),
         }

@@ -7,7 +7,7 @@ ghost use Rattle.step_facts.specs.Told as spec;
 ghost use Rattle.step_records.specs.declared.record.Fact.TheVariants as fact_spec;
 
 use chan_events::event::Event;
-use chan_events::reply::{Entry, Reply};
+use chan_events::reply::Reply;
 use chan_model::fault::Fault;
 use chan_model::hold_state::HoldState;
 use channel_config::parts::PathReturn;
@@ -31,28 +31,9 @@ pub struct Step<'a> {
     pub before: &'a Sight,
     /// What waited on the wires before it.
     pub waiting: &'a Waiting,
-    pub entry: &'a Entry,
+    pub event: &'a Event,
+    pub reply: &'a Reply,
     pub after: &'a Sight,
-}
-
-/// Why the facts of a step cannot be told.
-#[derive(Clone, Copy, Debug, PartialEq, Eq)]
-pub enum FactFault {
-    /// A growth was refused.
-    NoMemory,
-    /// The event names a subchannel or a path that is not there.
-    NotThere,
-}
-
-impl From<AllocError> for FactFault {
-    ghost use Rattle.std.specs.Prelude.{◌≡◌};
-    ghost use Rattle.step_facts.specs.declared.step.FactFault.TheVariants.{NoMemory};
-
-    ghost from_gives = { λ _ fault. fault ≡ NoMemory };
-
-    fn from(_: AllocError) -> Self {
-        FactFault::NoMemory
-    }
 }
 
 /// The facts of one step, in order, under the number of its line.
@@ -87,16 +68,16 @@ pub fn named_by(parties: &Parties, event: &Event) -> Option<usize>
 impl Step<'_> {
     /// The event.
     pub fn event(&self) -> &Event
-        ensures { result.now ≡ self.now.entry.now.event }
+        ensures { result.now ≡ self.now.event.now }
     {
-        &self.entry.event
+        self.event
     }
 
     /// Its reply.
     pub fn reply(&self) -> &Reply
-        ensures { result.now ≡ self.now.entry.now.reply }
+        ensures { result.now ≡ self.now.reply.now }
     {
-        &self.entry.reply
+        self.reply
     }
 }
 

@@ -1,2 +1,3 @@
-mod Growing
-mod Stepping
+pub mod Faulting
+pub mod Growing
+pub mod Stepping

@@ -1,7 +1,8 @@
 -- What was told of one action.
-use Rattle.std.proofs.Common.{◌≡◌, ◌∙◌, ◌+◌, ◌-◌, ℕ, Bool, true, false, refl, sym, ap, subst, arith, List, [], ◌∷◌, ◌++◌, append-nil, cond, length}
+use Rattle.std.proofs.Common.{◌≡◌, ◌∙◌, ◌+◌, ◌-◌, ℕ, suc, Bool, true, false, refl, sym, ap, subst, arith, List, [], ◌∷◌, ◌++◌, append-nil, append_assoc, length}
 use Rattle.std.proofs.lemmas.List.{length-append}
-use Rattle.std.specs.Prelude.{Result, Ok, Err, Some, slice_get}
+use Rattle.std.proofs.lemmas.Option.{same_Some}
+use Rattle.std.specs.Prelude.{Result, Ok, Err, Option, None, Some, slice_get}
 use Rattle.chan_events.specs.Events.{Event}
 use Rattle.chan_events.specs.declared.event.Event.TheVariants as event
 use Rattle.chan_events.specs.Replies.{Reply}
@@ -9,8 +10,11 @@ use Rattle.chan_events.specs.declared.reply.Entry.{Entry}
 use Rattle.chan_model.specs.Reports.{Report}
 use Rattle.chan_model.specs.declared.fault.Fault.{Fault}
 use Rattle.chan_model.specs.declared.fault.Fault.TheVariants as fault
+use Rattle.event_log.specs.Logs.{last_reply}
+use Rattle.functions.specs.Unwired.{Unwired}
 use Rattle.machine_model.specs.State.{Past}
-use Rattle.machine_sight.specs.Balance.{IsBalanced, signal_of, signals_on}
+use Rattle.machine_sight.specs.Balance.{IsBalanced, signals_on}
+use Rattle.machine_sight.specs.Finding.{found_at}
 use Rattle.machine_sight.specs.Shown.{Shows, TellsWaiting}
 use Rattle.machine_sight.specs.Waiting.{WaitingQueues, waits_on}
 use Rattle.machine_sight.specs.declared.balance.Course.{Course}
@@ -21,30 +25,13 @@ use Rattle.script_rows.specs.declared.Action.TheVariants as action
 use Rattle.script_runner.specs.Acting.{ActionOutcome, Enters, Follows, Installed, PerformsAction, device_turn_of}
 use Rattle.script_text.specs.Text.{told_of as outcome_told}
 use Rattle.script_text.specs.declared.ActionResult.TheVariants as outcome
-use Rattle.step_facts.specs.Told.{Told, answers_of, facts_where, is_move, told_of}
+use Rattle.step_facts.specs.Told.{AnsweredLine, answers_of, facts_where, is_hold, is_move}
 use Rattle.step_records.specs.declared.parties.Parties.{Parties}
 use Rattle.step_records.specs.declared.record.Fact.{Fact}
-use Rattle.step_records.specs.declared.record.Fact.TheVariants as fact
 use Rattle.step_records.specs.declared.record.Record.{Record}
 use Rattle.step_records.specs.declared.record.Signal.{Signal}
 use Rattle.step_records.specs.declared.record.Wire.{Wire}
-use Rattle.trace_runs.specs.Tracing.{AreHeldBy, HasAdded, HasStepped, HasTold, IsLast, IsMovedBy, IsSeen, Traced, answered_line}
-
--- where no signal moved there is none of any course
-one_quiet : (course : Course) (on : Wire) (f : Fact) (rs : List Record) → (facts_where is_move rs ≡ [] → signals_on course on rs ≡ []) →
-    cond (is_move f) (f ∷ facts_where is_move rs) (facts_where is_move rs) ≡ [] → signal_of course on f ++ signals_on course on rs ≡ []
-one_quiet course on (fact.Signal w m s) rs ih e = absurd (cc e)
-one_quiet course on f rs ih e = ih e
-
-no_signals : (course : Course) (on : Wire) (rs : List Record) → facts_where is_move rs ≡ [] → signals_on course on rs ≡ []
-no_signals course on [] e = refl
-no_signals course on (r ∷ rs) e = one_quiet course on r.fact rs (no_signals course on rs) e
-
-balanced_quiet : (waiting : List WaitingQueues) (facts : List Record) → facts_where is_move facts ≡ [] → IsBalanced waiting facts waiting
-balanced_quiet waiting facts e = λ on.
-    ap (λ (t : List Signal). waits_on waiting on ++ t) (no_signals Onto on facts e)
-    ∙ (append-nil (waits_on waiting on)
-    ∙ sym (ap (λ (t : List Signal). t ++ waits_on waiting on) (no_signals Off on facts e)))
+use Rattle.trace_runs.specs.Tracing.{AreHeldBy, HasStepped, HasTold, IsLast, IsMovedBy, IsSeen, Traced, answer_record, answered_line, beginning, first_facts, found_where, instructed}
 
 -- a refusal, or a look
 abbrev pub is_quiet : ActionOutcome → Bool
@@ -103,31 +90,97 @@ seen_same old new state alike same still seen = record {
       (subst (λ s. TellsWaiting s old.parties.subchannels.items old.waiting) (sym state) seen.told));
 }
 
--- an action of which only what it came to is told
-quiet_step : (old new : Traced) (line : ℕ) (action : Action) (outcome : ActionOutcome) (before after : List Record) (told : Told) →
+-- the first facts of a line move no signal and change no hold, and answer once
+moves-found : (line n : ℕ) (o : Option Unwired) (outcome : ActionOutcome) (rest : List Record) →
+    facts_where is_move (first_facts line (found_at n o) outcome ++ rest) ≡ facts_where is_move rest
+moves-found line n None outcome rest = refl
+moves-found line n (Some s) outcome rest = refl
+
+moves-first : (line : ℕ) (sight : Sight) (sub : Option ℕ) (outcome : ActionOutcome) (rest : List Record) →
+    facts_where is_move (first_facts line (found_where sight sub) outcome ++ rest) ≡ facts_where is_move rest
+moves-first line sight None outcome rest = refl
+moves-first line sight (Some n) outcome rest = moves-found line n (slice_get sight.subchannels.items n) outcome rest
+
+holds-found : (line n : ℕ) (o : Option Unwired) (outcome : ActionOutcome) (rest : List Record) →
+    facts_where is_hold (first_facts line (found_at n o) outcome ++ rest) ≡ facts_where is_hold rest
+holds-found line n None outcome rest = refl
+holds-found line n (Some s) outcome rest = refl
+
+holds-first : (line : ℕ) (sight : Sight) (sub : Option ℕ) (outcome : ActionOutcome) (rest : List Record) →
+    facts_where is_hold (first_facts line (found_where sight sub) outcome ++ rest) ≡ facts_where is_hold rest
+holds-first line sight None outcome rest = refl
+holds-first line sight (Some n) outcome rest = holds-found line n (slice_get sight.subchannels.items n) outcome rest
+
+answers-found : (line n : ℕ) (o : Option Unwired) (outcome : ActionOutcome) (rest : List Record) →
+    answers_of (first_facts line (found_at n o) outcome ++ rest) ≡ answered_line line outcome ∷ answers_of rest
+answers-found line n None outcome rest = refl
+answers-found line n (Some s) outcome rest = refl
+
+answers-first : (line : ℕ) (sight : Sight) (sub : Option ℕ) (outcome : ActionOutcome) (rest : List Record) →
+    answers_of (first_facts line (found_where sight sub) outcome ++ rest) ≡ answered_line line outcome ∷ answers_of rest
+answers-first line sight None outcome rest = refl
+answers-first line sight (Some n) outcome rest = answers-found line n (slice_get sight.subchannels.items n) outcome rest
+
+signals-found : (course : Course) (on : Wire) (line n : ℕ) (o : Option Unwired) (outcome : ActionOutcome) (rest : List Record) →
+    signals_on course on (first_facts line (found_at n o) outcome ++ rest) ≡ signals_on course on rest
+signals-found course on line n None outcome rest = refl
+signals-found course on line n (Some s) outcome rest = refl
+
+signals-first : (course : Course) (on : Wire) (line : ℕ) (sight : Sight) (sub : Option ℕ) (outcome : ActionOutcome) (rest : List Record) →
+    signals_on course on (first_facts line (found_where sight sub) outcome ++ rest) ≡ signals_on course on rest
+signals-first course on line sight None outcome rest = refl
+signals-first course on line sight (Some n) outcome rest = signals-found course on line n (slice_get sight.subchannels.items n) outcome rest
+
+-- what balances the facts behind them balances all
+balanced-first : (waited waits : List WaitingQueues) (line : ℕ) (sight : Sight) (sub : Option ℕ) (outcome : ActionOutcome) (rest : List Record) →
+    IsBalanced waited rest waits → IsBalanced waited (first_facts line (found_where sight sub) outcome ++ rest) waits
+balanced-first waited waits line sight sub outcome rest b = λ on.
+    ap (λ (t : List Signal). waits_on waited on ++ t) (signals-first Onto on line sight sub outcome rest)
+    ∙ (b on
+    ∙ sym (ap (λ (t : List Signal). t ++ waits_on waits on) (signals-first Off on line sight sub outcome rest)))
+
+balanced-none : (waiting : List WaitingQueues) → IsBalanced waiting [] waiting
+balanced-none waiting = λ on. append-nil (waits_on waiting on)
+
+-- the facts of a line are told piece by piece
+told-behind : (before middle after : List Record) (line : ℕ) (found : Option Fact) (outcome : ActionOutcome) (rest : List Record) →
+    middle ≡ before ++ beginning line found → after ≡ (middle ++ answer_record line outcome ∷ []) ++ rest →
+    after ≡ before ++ (first_facts line found outcome ++ rest)
+told-behind before middle after line found outcome rest first then =
+    let answer : List Record = answer_record line outcome ∷ [] in
+    then
+    ∙ (ap (λ (t : List Record). (t ++ answer) ++ rest) first
+    ∙ (ap (λ (t : List Record). t ++ rest) (append_assoc before (beginning line found) answer)
+    ∙ append_assoc before (first_facts line found outcome) rest))
+
+-- an action of which only what it found and came to is told
+quiet_step : (old new : Traced) (line : ℕ) (action : Action) (outcome : ActionOutcome) (before middle after : List Record) →
     PerformsAction old.machine action outcome new.machine → is_quiet outcome ≡ true → new.parties ≡ old.parties → new.sight ≡ old.sight →
-    new.waiting ≡ old.waiting → told ≡ record { line = line; answers = answered_line line outcome ∷ []; moves = []; holds = [] } →
-    HasAdded told before after → IsSeen old → HasStepped old line action before after new
-quiet_step old new line action outcome before after told acts quiet stay same still is was seen =
+    new.waiting ≡ old.waiting → middle ≡ before ++ beginning line (found_where old.sight (instructed old.parties action)) →
+    after ≡ middle ++ answer_record line outcome ∷ [] → IsSeen old → HasStepped old line action before after new
+quiet_step old new line action outcome before middle after acts quiet stay same still first then seen =
     let past = quiet_past old.machine new.machine action outcome quiet acts in
-    let shown = subst (λ s. Shows s old.parties old.sight) (sym past.0) seen.shown in
-    let waits = subst (λ s. TellsWaiting s old.parties.subchannels.items old.waiting) (sym past.0) seen.told in
+    let named = instructed old.parties action in
+    let found = found_where old.sight named in
+    let facts : List Record = first_facts line found outcome ++ [] in
     record {
-      facts = was.facts;
-      added = was.added;
+      facts = facts;
+      added = told-behind before middle after line found outcome [] first (then ∙ sym (append-nil (middle ++ answer_record line outcome ∷ [])));
       told = record {
         outcome = outcome;
         acts = acts;
-        answers = ap (λ (t : Told). t.answers) was.are ∙ ap (λ (t : Told). t.answers) is;
         before = old.sight;
         after = old.sight;
         shown_before = seen.shown;
-        shown_after = shown;
+        shown_after = subst (λ s. Shows s old.parties old.sight) (sym past.0) seen.shown;
+        rest = [];
+        begins = refl;
+        answers = answers-first line old.sight named outcome [];
         waited = old.waiting;
         waits = old.waiting;
         told_before = seen.told;
-        told_after = waits;
-        balanced = balanced_quiet old.waiting was.facts (ap (λ (t : Told). t.moves) was.are ∙ ap (λ (t : Told). t.moves) is);
+        told_after = subst (λ s. TellsWaiting s old.parties.subchannels.items old.waiting) (sym past.0) seen.told;
+        balanced = balanced-first old.waiting old.waiting line old.sight named outcome [] (balanced-none old.waiting);
         moves = λ entry grown. absurd (not_longer old.machine.past.history new.machine.past.history entry past.1 grown);
         holds = λ entry grown. absurd (not_longer old.machine.past.history new.machine.past.history entry past.1 grown);
       };
@@ -135,73 +188,90 @@ quiet_step old new line action outcome before after told acts quiet stay same st
       seen = seen_same old new past.0 stay same still seen;
     }
 
-pub stepped_quiet : (old new : Traced) (m : Installed) (line : ℕ) (action : Action) (outcome : ActionOutcome) (before after : List Record) (told : Told) →
-    PerformsAction old.machine action outcome m → is_quiet outcome ≡ true → new ≡ record old { machine = m } →
-    told ≡ record { line = line; answers = answered_line line outcome ∷ []; moves = []; holds = [] } →
-    HasAdded told before after → IsSeen old → HasStepped old line action before after new
-stepped_quiet old new m line action outcome before after told acts quiet kept is was seen =
+pub stepped_quiet : (old new : Traced) (m : Installed) (line : ℕ) (action : Action) (came outcome : ActionOutcome) (named : Option ℕ) (before middle after : List Record) →
+    PerformsAction old.machine action came m → came ≡ outcome → is_quiet outcome ≡ true → new ≡ record old { machine = m } →
+    named ≡ instructed old.parties action → middle ≡ before ++ beginning line (found_where old.sight named) →
+    after ≡ middle ++ answer_record line outcome ∷ [] → IsSeen old → HasStepped old line action before after new
+stepped_quiet old new m line action came outcome named before middle after acts is quiet kept names first then seen =
     subst (λ (t : Traced). HasStepped old line action before after t) (sym kept)
-    (quiet_step old (record old { machine = m }) line action outcome before after told acts quiet refl refl refl is was seen)
+    (quiet_step old (record old { machine = m }) line action outcome before middle after
+    (subst (λ (o : ActionOutcome). PerformsAction old.machine action o m) is acts) quiet refl refl refl
+    (first ∙ ap (λ (n : Option ℕ). before ++ beginning line (found_where old.sight n)) names) then seen)
 
 -- an event of which the facts are told behind what it came to
-told_step : (old middle new : Traced) (line : ℕ) (action : Action) (outcome : ActionOutcome) (told : Told) (before after : List Record) →
-    PerformsAction old.machine action outcome middle.machine → middle.parties ≡ old.parties → middle.sight ≡ old.sight → middle.waiting ≡ old.waiting →
-    told ≡ record { line = line; answers = answered_line line outcome ∷ []; moves = []; holds = [] } →
-    HasTold middle told before after new → IsSeen old → HasStepped old line action before after new
-told_step old middle new line action outcome told before after acts alike same still is h seen =
-    let first : Told = record { line = line; answers = answered_line line outcome ∷ []; moves = []; holds = [] } in
-    let k : HasTold middle first before after new = subst (λ (t : Told). HasTold middle t before after new) is h in
-    let stay : new.parties ≡ old.parties = k.parties_stay ∙ alike in
+pub stepped_told : (old middle new : Traced) (m : Installed) (line : ℕ) (action : Action) (came : ActionOutcome) (named : Option ℕ) (before between after : List Record) →
+    PerformsAction old.machine action came m → came ≡ Ok (outcome.Reply (last_reply m.past.history)) → middle ≡ record old { machine = m } →
+    named ≡ instructed old.parties action → between ≡ before ++ beginning line (found_where old.sight named) →
+    HasTold middle line between after new → IsSeen old → HasStepped old line action before after new
+stepped_told old middle new m line action came named before between after acts is kept names first h seen =
+    let here : Traced = record old { machine = m } in
+    let k : HasTold here line between after new = subst (λ (t : Traced). HasTold t line between after new) kept h in
+    let asked = instructed old.parties action in
+    let came_to : ActionOutcome = Ok (outcome.Reply (last_reply m.past.history)) in
     record {
-      facts = k.facts;
-      added = k.added;
+      facts = first_facts line (found_where old.sight asked) came_to ++ k.facts;
+      added = told-behind before between after line (found_where old.sight asked) came_to k.facts
+          (first ∙ ap (λ (n : Option ℕ). before ++ beginning line (found_where old.sight n)) names) k.added;
       told = record {
-        outcome = outcome;
-        acts = subst (λ (m : Installed). PerformsAction old.machine action outcome m) (sym k.machine_stays) acts;
-        answers = k.answers_are;
+        outcome = came_to;
+        acts = subst (λ (i : Installed). PerformsAction old.machine action came_to i) (sym k.machine_stays)
+            (subst (λ (o : ActionOutcome). PerformsAction old.machine action o m) is acts);
         before = old.sight;
         after = new.sight;
         shown_before = seen.shown;
-        shown_after = subst (λ (p : Parties). Shows new.machine.past.state p new.sight) stay k.seen.shown;
+        shown_after = subst (λ (p : Parties). Shows new.machine.past.state p new.sight) k.parties_stay k.seen.shown;
+        rest = k.facts;
+        begins = refl;
+        answers = answers-first line old.sight asked came_to k.facts ∙ ap (λ (t : List AnsweredLine). answered_line line came_to ∷ t) k.none_answered;
         waited = old.waiting;
         waits = new.waiting;
         told_before = seen.told;
-        told_after = subst (λ (p : Parties). TellsWaiting new.machine.past.state p.subchannels.items new.waiting) stay k.seen.told;
-        balanced = subst (λ (ws : List WaitingQueues). IsBalanced ws k.facts new.waiting) still k.balanced;
-        moves = λ entry grown.
-            subst (λ (p : Parties). IsMovedBy p old.sight entry first k.facts) alike
-            (subst (λ (s : Sight). IsMovedBy middle.parties s entry first k.facts) same
-            (k.moves entry (last_grown old.machine.past.history middle.machine.past.history entry
-            (ap (λ (m : Installed). m.past.history) (sym k.machine_stays) ∙ grown))));
-        holds = λ entry grown. subst (λ (s : Sight). AreHeldBy s new.sight first k.facts) same k.holds;
+        told_after = subst (λ (p : Parties). TellsWaiting new.machine.past.state p.subchannels.items new.waiting) k.parties_stay k.seen.told;
+        balanced = balanced-first old.waiting new.waiting line old.sight asked came_to k.facts k.balanced;
+        moves = λ entry grown sub names told.
+            moves-first line old.sight asked came_to k.facts
+            ∙ k.moves entry (last_grown old.machine.past.history m.past.history entry (ap (λ (i : Installed). i.past.history) (sym k.machine_stays) ∙ grown)) sub names told;
+        holds = λ entry grown. holds-first line old.sight asked came_to k.facts ∙ k.holds;
       };
-      parties_stay = stay;
+      parties_stay = k.parties_stay;
       seen = k.seen;
     }
 
-pub stepped_told : (old middle new : Traced) (m : Installed) (line : ℕ) (action : Action) (outcome : ActionOutcome) (told : Told) (before after : List Record) →
-    PerformsAction old.machine action outcome m → middle ≡ record old { machine = m } →
-    told ≡ record { line = line; answers = answered_line line outcome ∷ []; moves = []; holds = [] } →
-    HasTold middle told before after new → IsSeen old → HasStepped old line action before after new
-stepped_told old middle new m line action outcome told before after acts kept is h seen =
-    told_step old (record old { machine = m }) new line action outcome told before after acts refl refl refl is
-    (subst (λ (t : Traced). HasTold t told before after new) kept h) seen
+-- the reply of the last entry
+reply-at : (h : List Entry) (e : Entry) → IsLast h e → e.reply ≡ last_reply h
+reply-at [] e is = absurd (cc is)
+reply-at (x ∷ []) e is =
+    let none : length (x ∷ []) - 1 ≡ 0 = omega arith in
+    ap (λ (y : Entry). y.reply) (same_Some e x (sym is ∙ ap (λ n. slice_get (x ∷ []) n) none))
+reply-at (x ∷ y ∷ h) e is =
+    let less : length (x ∷ y ∷ h) - 1 ≡ suc (length h) = omega arith in
+    let more : length (y ∷ h) - 1 ≡ length h = omega arith in
+    reply-at (y ∷ h) e (ap (λ n. slice_get (y ∷ h) n) more ∙ (ap (λ n. slice_get (x ∷ y ∷ h) n) (sym less) ∙ is))
+
+-- two last entries of a history are the same
+same-last : (h : List Entry) (e f : Entry) → IsLast h e → IsLast h f → e ≡ f
+same-last h e f one two = same_Some e f (sym one ∙ two)
+
+moved_last : (h : List Entry) (e : Entry) (parties : Parties) (before : Sight) (facts : List Record) → IsLast h e → IsMovedBy parties before e facts →
+    (entry : Entry) → IsLast h entry → IsMovedBy parties before entry facts
+moved_last h e parties before facts is moved = λ entry also. subst (λ (x : Entry). IsMovedBy parties before x facts) (same-last h e entry is also) moved
 
 -- the facts were followed on the wires of a machine that stays, and what is seen next is kept
-pub has_told : (old followed new : Traced) (told : Told) (before after list : List Record) (next : Sight) →
-    after ≡ before ++ list → answers_of list ≡ told.answers →
-    ((entry : Entry) → IsLast old.machine.past.history entry → IsMovedBy old.parties old.sight entry told list) →
-    AreHeldBy old.sight next told list → Shows old.machine.past.state old.parties next → IsBalanced old.waiting list followed.waiting →
+pub has_told : (old followed new : Traced) (line : ℕ) (before between after list : List Record) (next : Sight) (entry : Entry) →
+    IsLast old.machine.past.history entry → between ≡ before ++ answer_record line (Ok (outcome.Reply entry.reply)) ∷ [] →
+    after ≡ between ++ list → answers_of list ≡ [] →
+    IsMovedBy old.parties old.sight entry list →
+    AreHeldBy old.sight next list → Shows old.machine.past.state old.parties next → IsBalanced old.waiting list followed.waiting →
     TellsWaiting followed.machine.past.state followed.parties.subchannels.items followed.waiting →
-    followed ≡ record old { waiting = followed.waiting } → new ≡ record followed { sight = next } → HasTold old told before after new
-has_told old followed new told before after list next added answers moves holds shown balanced tells kept is =
+    followed ≡ record old { waiting = followed.waiting } → new ≡ record followed { sight = next } → HasTold old line before after new
+has_told old followed new line before between after list next entry last answered added answers moves holds shown balanced tells kept is =
     let stays : followed.machine ≡ old.machine = ap (λ (t : Traced). t.machine) kept in
     let alike : followed.parties ≡ old.parties = ap (λ (t : Traced). t.parties) kept in
-    subst (λ (t : Traced). HasTold old told before after t) (sym is) (record {
+    subst (λ (t : Traced). HasTold old line before after t) (sym is) (record {
       facts = list;
-      added = added;
-      answers_are = answers;
-      moves = moves;
+      added = added ∙ ap (λ (t : List Record). t ++ list) (answered ∙ ap (λ (r : Reply). before ++ answer_record line (Ok (outcome.Reply r)) ∷ []) (reply-at old.machine.past.history entry last));
+      none_answered = answers;
+      moves = moved_last old.machine.past.history entry old.parties old.sight list last moves;
       holds = holds;
       balanced = balanced;
       machine_stays = stays;
@@ -214,5 +284,5 @@ has_told old followed new told before after list next added answers moves holds 
     })
 
 -- the same where the machine is shown as a value
-pub at_value : (value old new : Traced) (told : Told) (before after : List Record) → value ≡ old → HasTold value told before after new → HasTold old told before after new
-at_value value old new told before after is h = subst (λ (t : Traced). HasTold t told before after new) is h
+pub at_value : (value old new : Traced) (line : ℕ) (before after : List Record) → value ≡ old → HasTold value line before after new → HasTold old line before after new
+at_value value old new line before after is h = subst (λ (t : Traced). HasTold t line before after new) is h

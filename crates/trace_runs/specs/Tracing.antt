@@ -1,9 +1,13 @@
 -- What the records of a script tell of its lines.
-use Rattle.std.specs.Prelude.{◌≡◌, ◌-◌, ℕ, true, false, List, [], ◌∷◌, ◌++◌, length, map, slice_get, Some}
+use Rattle.std.specs.Prelude.{◌≡◌, ◌-◌, ℕ, true, false, List, [], ◌∷◌, ◌++◌, length, map, slice_get, Ok, Option, None, Some}
 use Rattle.std.specs.List.{flat_map}
+use Rattle.chan_events.specs.Instructions.{subchannel_word}
+use Rattle.chan_events.specs.declared.event.Event.TheVariants as event
 use Rattle.chan_events.specs.declared.reply.Entry.{Entry}
 use Rattle.channel_config.specs.Setup.{Setup}
 use Rattle.machine_sight.specs.Balance.{IsBalanced}
+use Rattle.event_log.specs.Logs.{last_reply}
+use Rattle.machine_sight.specs.Finding.{found_of}
 use Rattle.machine_sight.specs.Shown.{Shows, TellsWaiting}
 use Rattle.machine_sight.specs.Waiting.{WaitingQueues}
 use Rattle.machine_sight.specs.declared.sight.Sight.{Sight}
@@ -11,14 +15,18 @@ use Rattle.script.specs.Pieces.{lines_of}
 use Rattle.script.specs.Scripts.{IsScript, ScriptContents}
 use Rattle.script.specs.declared.Line.{Line}
 use Rattle.script_rows.specs.declared.Action.{Action}
+use Rattle.script_rows.specs.declared.Action.TheVariants as action
 use Rattle.script_runner.specs.Acting.{ActionOutcome, Installed, IsAudited, IsOpening, PerformsAction, Runs}
 use Rattle.script_runner.specs.Performing.{output_of}
 use Rattle.script_text.specs.Text.{event_line}
+use Rattle.script_text.specs.declared.ActionResult.TheVariants as came
 use Rattle.step_facts.specs.Holds.{all_hold_changes}
 use Rattle.step_facts.specs.Moves.{is_told_by_reply, met_of, sent_of}
-use Rattle.step_records.specs.Named.{named_by}
-use Rattle.step_facts.specs.Told.{AnsweredLine, Told, answers_of, facts_where, is_hold, is_move, nothing_told, told_of}
+use Rattle.step_records.specs.Named.{index_of, named_by}
+use Rattle.step_facts.specs.Told.{AnsweredLine, answers_of, facts_where, is_hold, is_move, line_record}
 use Rattle.step_records.specs.declared.parties.Parties.{Parties}
+use Rattle.step_records.specs.declared.record.Fact.{Fact}
+use Rattle.step_records.specs.declared.record.Fact.TheVariants as fact
 use Rattle.step_records.specs.declared.record.Record.{Record}
 
 -- a machine, who there is, what a look showed of it last, and what waits on its wires as it is told
@@ -47,51 +55,72 @@ answered (l ∷ ls) (r ∷ rs) = answered_line l.number r ∷ answered ls rs
 abbrev pub IsLast : List Entry → Entry → Type 0
 IsLast entries entry = slice_get entries (length entries - 1) ≡ Some entry
 
--- behind the signals that were told already, those are told that the reply of this entry says were met and sent
-abbrev pub IsMovedBy : Parties → Sight → Entry → Told → List Record → Type 0
-IsMovedBy parties before entry told facts = (sub : ℕ) → named_by parties entry.event ≡ Some sub → is_told_by_reply entry.event ≡ true →
-    facts_where is_move facts ≡ told.moves ++ (met_of sub entry.event entry.reply ++ sent_of before sub entry.reply)
+-- the signals are told that the reply of this entry says were met and sent
+abbrev pub IsMovedBy : Parties → Sight → Entry → List Record → Type 0
+IsMovedBy parties before entry facts = (sub : ℕ) → named_by parties entry.event ≡ Some sub → is_told_by_reply entry.event ≡ true →
+    facts_where is_move facts ≡ met_of sub entry.event entry.reply ++ sent_of before sub entry.reply
 
--- behind the holds that were told already, those are told that differ
-abbrev pub AreHeldBy : Sight → Sight → Told → List Record → Type 0
-AreHeldBy before after told facts = facts_where is_hold facts ≡ told.holds ++ all_hold_changes before.subchannels.items after.subchannels.items
+-- the holds are told that differ
+abbrev pub AreHeldBy : Sight → Sight → List Record → Type 0
+AreHeldBy before after facts = facts_where is_hold facts ≡ all_hold_changes before.subchannels.items after.subchannels.items
 
--- these facts were added, and nothing else
-pub record HasAdded (told : Told) (before after : List Record) : Type 0 where
+-- the subchannel that the instruction of an action names
+abbrev pub instructed : Parties → Action → Option ℕ
+instructed parties (action.Event (event.Execute cpu i)) = index_of parties.subchannels.items (subchannel_word i)
+instructed parties other = None
+
+-- what an instruction finds of the subchannel that it names
+abbrev pub found_where : Sight → Option ℕ → Option Fact
+found_where sight None = None
+found_where sight (Some sub) = found_of sight sub
+
+abbrev pub found_records : ℕ → Option Fact → List Record
+found_records line None = []
+found_records line (Some found) = line_record line found ∷ []
+
+-- the first facts of a line: the line itself, what its instruction found, and what it came to
+abbrev pub beginning : ℕ → Option Fact → List Record
+beginning line found = line_record line fact.Event ∷ found_records line found
+
+abbrev pub answer_record : ℕ → ActionOutcome → Record
+answer_record line outcome = line_record line (fact.Answer outcome)
+
+abbrev pub first_facts : ℕ → Option Fact → ActionOutcome → List Record
+first_facts line found outcome = beginning line found ++ answer_record line outcome ∷ []
+
+-- behind the reply of the last event, the facts of that event were told of a machine that stays
+pub record HasTold (old : Traced) (line : ℕ) (before after : List Record) (new : Traced) : Type 0 where
   pub facts : List Record
-  pub added : after ≡ before ++ facts
-  pub are : told_of told.line facts ≡ told
-
--- behind what was told, the facts of the last event were told of a machine that stays
-pub record HasTold (old : Traced) (told : Told) (before after : List Record) (new : Traced) : Type 0 where
-  pub facts : List Record
-  pub added : after ≡ before ++ facts
-  pub answers_are : answers_of facts ≡ told.answers
-  pub moves : (entry : Entry) → IsLast old.machine.past.history entry → IsMovedBy old.parties old.sight entry told facts
-  pub holds : AreHeldBy old.sight new.sight told facts
+  pub added : after ≡ (before ++ answer_record line (Ok (came.Reply (last_reply old.machine.past.history))) ∷ []) ++ facts
+  pub none_answered : answers_of facts ≡ []
+  pub moves : (entry : Entry) → IsLast old.machine.past.history entry → IsMovedBy old.parties old.sight entry facts
+  pub holds : AreHeldBy old.sight new.sight facts
   pub balanced : IsBalanced old.waiting facts new.waiting
   pub machine_stays : new.machine ≡ old.machine
   pub parties_stay : new.parties ≡ old.parties
   pub seen : IsSeen new
 
--- the facts of a line: what its action came to, as `chsim run` performs it, and what differs between two looks, of which one shows the
--- machine before it and the other after it. They account for all that waits on the wires, at the machine before it and after it; where an
--- event was accepted, they tell the signals that its reply says were met and sent, and the holds that changed.
+-- the facts of a line: first the line, what its instruction found of the subchannel that it names, and what its action came to, as
+-- `chsim run` performs it; then what differs between two looks, of which one shows the machine before it and the other after it. They
+-- account for all that waits on the wires, at the machine before it and after it; where an event was accepted, they tell the signals that
+-- its reply says were met and sent, and the holds that changed.
 pub record IsToldOf (parties : Parties) (old : Installed) (number : ℕ) (action : Action) (facts : List Record) (new : Installed) : Type 0 where
   pub outcome : ActionOutcome
   pub acts : PerformsAction old action outcome new
-  pub answers : answers_of facts ≡ answered_line number outcome ∷ []
   pub before : Sight
   pub after : Sight
   pub shown_before : Shows old.past.state parties before
   pub shown_after : Shows new.past.state parties after
+  pub rest : List Record
+  pub begins : facts ≡ first_facts number (found_where before (instructed parties action)) outcome ++ rest
+  pub answers : answers_of facts ≡ answered_line number outcome ∷ []
   pub waited : List WaitingQueues
   pub waits : List WaitingQueues
   pub told_before : TellsWaiting old.past.state parties.subchannels.items waited
   pub told_after : TellsWaiting new.past.state parties.subchannels.items waits
   pub balanced : IsBalanced waited facts waits
-  pub moves : (entry : Entry) → new.past.history ≡ old.past.history ++ entry ∷ [] → IsMovedBy parties before entry (nothing_told number) facts
-  pub holds : (entry : Entry) → new.past.history ≡ old.past.history ++ entry ∷ [] → AreHeldBy before after (nothing_told number) facts
+  pub moves : (entry : Entry) → new.past.history ≡ old.past.history ++ entry ∷ [] → IsMovedBy parties before entry facts
+  pub holds : (entry : Entry) → new.past.history ≡ old.past.history ++ entry ∷ [] → AreHeldBy before after facts
 
 -- one line was performed, and its facts are told behind those before; what was looked at last shows the machine then too
 pub record HasStepped (old : Traced) (line : ℕ) (action : Action) (before after : List Record) (new : Traced) : Type 0 where

@@ -6,6 +6,7 @@ ghost use Rattle.machine_model.specs.State.{opening_of};
 ghost use Rattle.subsystem.specs.Keeping.{all_serials};
 ghost use Rattle.core_lock.specs.Directory.{directory_of};
 ghost use Rattle.script_runner.specs.Acting.{Installed, IsAudited, IsOpening};
+ghost use Rattle.trace_runs.specs.Faults.{IsFaultIn, IsFaultOf, IsScriptFault};
 ghost use Rattle.trace_runs.specs.Tracing.{HasPerformedAt, HasTraced, IsSeen, IsTraced};
 
 #[cfg(test)]
@@ -73,12 +74,14 @@ struct Performed {
 }
 
 /// Performs the script that a text is, as `chsim run` does, and keeps the facts of each step. A script that ends in a race is bad.
+#[tactic(auto, using(crate::proofs::Faulting::want_is_fault, crate::proofs::Faulting::bad_is_fault))]
 pub fn trace_script<M: CoreSupply>(
     alloc: Global,
     supply: &mut M,
     text: Vec<u8>,
 ) -> Result<Trace, TraceFault>
-    ensures { IfOk result (λ trace. IsTraced text.items trace.records.items) }
+    ensures traced { IfOk result (λ trace. IsTraced text.items trace.records.items) }
+    ensures fault { IfErr result (λ fault. IsScriptFault text.items (M.refused supply.new) fault) }
 {
     let text = ScriptLines::of(alloc, supply, text)?;
     let script = Script::read_with(alloc, supply, false, text.text())?;
@@ -93,6 +96,7 @@ pub fn trace_script<M: CoreSupply>(
 }
 
 /// Performs lines at a machine of this name, and audits.
+#[tactic(auto, using(crate::proofs::Faulting::fault_among, crate::proofs::Faulting::fault_before))]
 fn perform_named<J: MachineBrand, M: CoreSupply>(
     alloc: Global,
     supply: &mut M,
@@ -104,7 +108,8 @@ fn perform_named<J: MachineBrand, M: CoreSupply>(
     requires set_up { J.setup ≡ config }
     requires directory { parts.name.directory ≡ directory_of (opening_of config) }
     requires serials { parts.serials ≡ all_serials (opening_of config) }
-    ensures { IfOk result (λ done. HasPerformedAt config lines.now done.records.items) }
+    ensures performed { IfOk result (λ done. HasPerformedAt config lines.now done.records.items) }
+    ensures fault { IfErr result (λ fault. IsFaultOf lines.now (M.refused supply.new) fault) }
 {
     let mut tracer = Tracer::<J>::new(alloc, supply, config, parts)?;
     let mut records = Vec::new(alloc);
@@ -128,6 +133,7 @@ fn perform<J: MachineBrand, M: Supply>(
     requires seen { IsSeen tracer.old }
     ensures traced { OnOk result (HasTraced tracer.old.parties tracer.old.machine lines.now records.new.items tracer.new.machine) }
     ensures parties { OnOk result (tracer.new.parties ≡ tracer.old.parties) }
+    ensures fault { IfErr result (λ fault. IsFaultIn lines.now (M.refused supply.new) fault) }
 {
     for index in 0..lines.len() {
         let Some(line) = lines.kept(index) else {

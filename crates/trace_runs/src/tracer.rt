@@ -1,18 +1,22 @@
 //! A machine whose steps are told: for each action what it came to, and the facts of what it did.
 
-ghost use Rattle.std.specs.Prelude.{◌≡◌, ◌≤◌, ◌++◌, ◌∷◌, [], Err, IfOk, IfNone, IfSome, IsTrue, ◌↔◌, OnOk, OnErr, length, true, slice_get};
+ghost use Rattle.std.specs.Prelude.{◌≡◌, ◌≢◌, ◌≤◌, ◌++◌, ◌∷◌, ℕ, List, [], Ok, Err, IfErr, IfOk, IfSome, IsTrue, ◌↔◌, OnOk, OnErr, length, true};
 ghost use Rattle.machine_model.specs.State.{opening_of};
 ghost use Rattle.subsystem.specs.Keeping.{all_serials};
 ghost use Rattle.core_lock.specs.Directory.{directory_of};
 ghost use Rattle.script_rows.specs.Slots.{action_in, action_length};
-ghost use Rattle.script_runner.specs.Acting as acting;
 ghost use Rattle.script_runner.specs.Acting.{IsAudited, IsOpening};
+ghost use Rattle.script_text.specs.declared.ActionResult.TheVariants as result_spec;
+ghost use Rattle.chan_model.specs.declared.fault.Fault.TheVariants as refusal_spec;
 ghost use Rattle.machine_sight.specs.Balance.{IsBalanced};
-ghost use Rattle.step_facts.specs.Told as told_spec;
-ghost use Rattle.step_facts.specs.Told.{answers_of};
-ghost use Rattle.chan_events.specs.declared.reply.Entry.{Entry};
+ghost use Rattle.machine_sight.specs.Finding.{found_of};
 ghost use Rattle.machine_sight.specs.Shown.{Shows, TellsWaiting};
-ghost use Rattle.trace_runs.specs.Tracing.{AreHeldBy, AreOf, HasAdded, HasStepped, HasTold, IsLast, IsMovedBy, IsSeen, answered_line};
+ghost use Rattle.step_facts.specs.Told.{answers_of, line_record};
+ghost use Rattle.step_records.specs.declared.record.Fact.TheVariants as fact_spec;
+ghost use Rattle.trace_runs.specs.Faults.{IsFaultAt, fault_told};
+ghost use Rattle.trace_runs.specs.Tracing as spec;
+ghost use Rattle.trace_runs.specs.Tracing.{AreHeldBy, AreOf, HasStepped, HasTold, IsLast, IsMovedBy, IsSeen};
+ghost use Rattle.trace_runs.specs.declared.tracer.Stepped.TheVariants as stepped_spec;
 
 use crate::TraceFault;
 use chan_events::event::Event;
@@ -27,19 +31,20 @@ use machine::looks::Looks;
 use machine_sight::looking::SightFault;
 use machine_sight::sight::Sight;
 use machine_sight::waiting::Waiting;
-use memory::{Supply, make_room};
+use memory::{Supply, make_room, push};
 use path_select::Rotating;
 use refusal_reasons::refusal_of;
 use script_rows::slots::KeptAction;
 use script_runner::buffers::EventBuffers;
 use script_runner::scripted_machine::{Acted, ScriptedMachine};
 use script_text::ActionResult;
+use scsw_irb::serials::Serials;
 use std::alloc::{AllocError, Global};
 use std::marker::Model;
 use std::mem;
 use step_facts::facts::add_facts;
 use step_facts::requests::Requests;
-use step_facts::step::{FactFault, Step, StepFacts, named_by};
+use step_facts::step::{Step, StepFacts, named_by};
 use step_records::parties::Parties as Participants;
 use step_records::record::{Fact, Record};
 use subsystem::subsystem::Subsystem;
@@ -80,23 +85,6 @@ impl<J: MachineBrand> Model for Tracer<J> {
     ghost view = { λ t. record { machine = t.machine; parties = t.parties; sight = t.sight; waiting = t.waiting } };
 }
 
-/// The outcome of an action, as it is told.
-fn outcome_of<J: MachineBrand>(
-    machine: &ScriptedMachine<J>,
-    acted: &Result<Acted, Fault>,
-) -> Result<ActionResult, Fault>
-    ensures { result ≡ acting.outcome_of acted.now machine.now.past.history }
-{
-    match acted {
-        Ok(Acted::Replied) => match machine.last_reply() {
-            Some(reply) => Ok(ActionResult::Reply(reply.own())),
-            None => Ok(ActionResult::Reply(Reply::Done)),
-        },
-        Ok(Acted::Looked(found)) => Ok(ActionResult::Serials(*found)),
-        Err(fault) => Err(*fault),
-    }
-}
-
 /// The last entry of a history; None where there is none.
 fn last_entry(subsystem: &Subsystem<Rotating>) -> Option<Entry>
     ensures { IfSome result (λ entry. IsLast subsystem.now.history entry) }
@@ -109,53 +97,146 @@ fn last_entry(subsystem: &Subsystem<Rotating>) -> Option<Entry>
 }
 
 /// A fault of a look, at this line.
-fn fault_of(fault: SightFault, line: u64) -> TraceFault {
+fn fault_of(fault: SightFault, line: u64) -> TraceFault
+    ensures { result ≡ fault_told fault line }
+{
     match fault {
         SightFault::NoMemory => TraceFault::NoMemory,
         SightFault::NotThere => TraceFault::Unbalanced(line),
     }
 }
 
-/// A fault of the facts of this line.
-fn fault_of_facts(fault: FactFault, line: u64) -> TraceFault {
-    match fault {
-        FactFault::NoMemory => TraceFault::NoMemory,
-        FactFault::NotThere => TraceFault::Unbalanced(line),
-    }
-}
-
-/// What the instruction of an action finds of its subchannel; None where it names none that is there.
-fn found_by(sight: &Sight, parties: &Participants, action: &KeptAction) -> Option<Fact>
-    ensures { IfSome result (λ fact. told_spec.is_other fact ≡ true) }
+/// The subchannel that the instruction of an action names; None where it names none that is there.
+fn instructed(parties: &Participants, action: &KeptAction) -> Option<usize>
+    ensures { (bytes : List ℕ) → result ≡ spec.instructed parties.now (action_in action.now bytes) }
 {
     match action {
         KeptAction::Event(Event::Execute { instruction, .. }) => {
-            let index = parties.subchannel_named(instruction.subchannel_word())?;
-            sight.found(index)
+            parties.subchannel_named(instruction.subchannel_word())
         }
         _ => None,
     }
 }
 
-/// What a line found and what it came to, as the first facts of its step, in what room a list has that holds none.
-fn first_facts<S: Supply>(
+/// One record more of this line.
+fn add_fact<S: Supply>(
     supply: &mut S,
     line: u64,
-    list: Vec<Record>,
-    found: Option<Fact>,
-    outcome: Result<ActionResult, Fault>,
-) -> Result<StepFacts, AllocError>
-    requires found { IfSome found (λ fact. told_spec.is_other fact ≡ true) }
-    requires none { list.items ≡ [] }
-    ensures { IfOk result (λ facts. facts ≡ record { line = line; answers = answered_line line outcome ∷ []; moves = []; holds = [] }) }
+    fact: Fact,
+    records: &mut Vec<Record>,
+) -> Result<(), AllocError>
+    ensures added { OnOk result (records.new.items ≡ records.old.items ++ line_record line fact ∷ []) }
+    ensures unrefused { OnOk result (S.refused supply.new ≡ S.refused supply.old) }
+    ensures memory { OnErr result (S.refused supply.new ≡ true) }
 {
-    let mut facts = StepFacts::new(line, list);
-    facts.push(supply, Fact::Event)?;
-    if let Some(found) = found {
-        facts.push(supply, found)?;
+    push(supply, records, Record { line, fact })
+}
+
+/// The line itself.
+#[inline(never)]
+fn add_event<S: Supply>(
+    supply: &mut S,
+    line: u64,
+    records: &mut Vec<Record>,
+) -> Result<(), AllocError>
+    ensures added { OnOk result (records.new.items ≡ records.old.items ++ line_record line fact_spec.Event ∷ []) }
+    ensures unrefused { OnOk result (S.refused supply.new ≡ S.refused supply.old) }
+    ensures memory { OnErr result (S.refused supply.new ≡ true) }
+{
+    add_fact(supply, line, Fact::Event, records)
+}
+
+/// What an instruction finds of a subchannel, where it is there.
+#[inline(never)]
+fn add_found<S: Supply>(
+    supply: &mut S,
+    line: u64,
+    sight: &Sight,
+    subchannel: usize,
+    records: &mut Vec<Record>,
+) -> Result<(), AllocError>
+    ensures added { OnOk result (records.new.items ≡ records.old.items ++ spec.found_records line (found_of sight.now subchannel)) }
+    ensures unrefused { OnOk result (S.refused supply.new ≡ S.refused supply.old) }
+    ensures memory { OnErr result (S.refused supply.new ≡ true) }
+{
+    match sight.found(subchannel) {
+        Some(found) => add_fact(supply, line, found, records),
+        None => Ok(()),
     }
-    facts.push_answer(supply, outcome)?;
-    Ok(facts)
+}
+
+/// The line, and what its instruction finds of the subchannel that it names.
+fn add_beginning<S: Supply>(
+    supply: &mut S,
+    line: u64,
+    sight: &Sight,
+    subchannel: Option<usize>,
+    records: &mut Vec<Record>,
+) -> Result<(), AllocError>
+    ensures added { OnOk result (records.new.items ≡ records.old.items ++ spec.beginning line (spec.found_where sight.now subchannel)) }
+    ensures unrefused { OnOk result (S.refused supply.new ≡ S.refused supply.old) }
+    ensures memory { OnErr result (S.refused supply.new ≡ true) }
+{
+    add_event(supply, line, records)?;
+    match subchannel {
+        Some(subchannel) => add_found(supply, line, sight, subchannel, records),
+        None => Ok(()),
+    }
+}
+
+/// What an event that was accepted came to.
+#[inline(never)]
+fn add_reply<S: Supply>(
+    supply: &mut S,
+    line: u64,
+    reply: Reply,
+    records: &mut Vec<Record>,
+) -> Result<(), AllocError>
+    ensures added { OnOk result (records.new.items ≡ records.old.items ++ spec.answer_record line (Ok (result_spec.Reply reply)) ∷ []) }
+    ensures unrefused { OnOk result (S.refused supply.new ≡ S.refused supply.old) }
+    ensures memory { OnErr result (S.refused supply.new ≡ true) }
+{
+    add_fact(
+        supply,
+        line,
+        Fact::Answer(Ok(ActionResult::Reply(reply))),
+        records,
+    )
+}
+
+/// What a look came to.
+#[inline(never)]
+fn add_looked<S: Supply>(
+    supply: &mut S,
+    line: u64,
+    found: Serials,
+    records: &mut Vec<Record>,
+) -> Result<(), AllocError>
+    ensures added { OnOk result (records.new.items ≡ records.old.items ++ spec.answer_record line (Ok (result_spec.Serials found)) ∷ []) }
+    ensures unrefused { OnOk result (S.refused supply.new ≡ S.refused supply.old) }
+    ensures memory { OnErr result (S.refused supply.new ≡ true) }
+{
+    add_fact(
+        supply,
+        line,
+        Fact::Answer(Ok(ActionResult::Serials(found))),
+        records,
+    )
+}
+
+/// That an action was refused.
+#[inline(never)]
+fn add_refusal<S: Supply>(
+    supply: &mut S,
+    line: u64,
+    fault: Fault,
+    records: &mut Vec<Record>,
+) -> Result<(), AllocError>
+    ensures added { OnOk result (records.new.items ≡ records.old.items ++ spec.answer_record line (Err fault) ∷ []) }
+    ensures unrefused { OnOk result (S.refused supply.new ≡ S.refused supply.old) }
+    ensures memory { OnErr result (S.refused supply.new ≡ true) }
+{
+    add_fact(supply, line, Fact::Answer(Err(fault)), records)
 }
 
 /// Moves records behind others.
@@ -166,6 +247,7 @@ fn add_all<S: Supply>(
 ) -> Result<(), AllocError>
     ensures added { OnOk result (records.new.items ≡ records.old.items ++ list.old.items) }
     ensures moved { OnOk result (list.new.items ≡ []) }
+    ensures unrefused { OnOk result (S.refused supply.new ≡ S.refused supply.old) }
     ensures memory { OnErr result (S.refused supply.new ≡ true) }
 {
     make_room(supply, records, list.len())?;
@@ -181,6 +263,7 @@ struct FirstSeen {
 }
 
 /// What is seen of a machine at its opening, where nothing waits on its wires.
+#[tactic(auto, using(crate::proofs::Faulting::want_at, crate::proofs::Faulting::sight_at))]
 fn first_seen<S: Supply, L: Looks>(
     alloc: Global,
     supply: &mut S,
@@ -189,6 +272,8 @@ fn first_seen<S: Supply, L: Looks>(
 ) -> Result<FirstSeen, TraceFault>
     ensures shown { IfOk result (λ seen. Shows (L.state looks.now) parties.now seen.sight) }
     ensures told { IfOk result (λ seen. TellsWaiting (L.state looks.now) parties.now.subchannels.items seen.waiting) }
+    ensures unrefused { OnOk result (S.refused supply.new ≡ S.refused supply.old) }
+    ensures fault { IfErr result (λ fault. IsFaultAt 0 (S.refused supply.new) fault) }
 {
     let mut sight = Sight::none(alloc);
     if let Err(fault) = sight.look(supply, looks, parties) {
@@ -204,6 +289,7 @@ fn first_seen<S: Supply, L: Looks>(
 
 impl<J: MachineBrand> Tracer<J> {
     /// A machine at the opening of a configuration.
+    #[tactic(auto, using(crate::proofs::Faulting::want_at, crate::proofs::Faulting::sight_at))]
     pub fn new<S: CoreSupply>(
         alloc: Global,
         supply: &mut S,
@@ -217,6 +303,8 @@ impl<J: MachineBrand> Tracer<J> {
         ensures opening { IfOk result (λ tracer. IsOpening config tracer.machine) }
         ensures parties { IfOk result (λ tracer. AreOf config tracer.parties) }
         ensures seen { IfOk result (λ tracer. IsSeen tracer) }
+        ensures unrefused { OnOk result (S.refused supply.new ≡ S.refused supply.old) }
+        ensures fault { IfErr result (λ fault. IsFaultAt 0 (S.refused supply.new) fault) }
     {
         let parties = Participants::of(alloc, supply, &config)?;
         let path_return = config.path_return();
@@ -288,7 +376,7 @@ impl<J: MachineBrand> Tracer<J> {
 
     /// Performs the action of a line, and adds what it came to and the facts of what it did. Of an action that is refused there is
     /// only what it came to, and why. There is no memory only where the supply refused a growth; then the records may lack facts.
-    #[tactic(auto, using(crate::proofs::Stepping::stepped_quiet, crate::proofs::Stepping::stepped_told))]
+    #[tactic(auto, using(crate::proofs::Faulting::want_at))]
     pub fn step<S: Supply>(
         &mut self,
         supply: &mut S,
@@ -298,45 +386,46 @@ impl<J: MachineBrand> Tracer<J> {
         records: &mut Vec<Record>,
     ) -> Result<Stepped, TraceFault>
         requires { action_length action.now ≤ length bytes.now }
-        ensures { OnOk result (IsSeen self.old → HasStepped self.old line (action_in action.now bytes.now) records.old.items records.new.items self.new) }
+        ensures stepped { OnOk result (IsSeen self.old → HasStepped self.old line (action_in action.now bytes.now) records.old.items records.new.items self.new) }
+        ensures unrefused { IfOk result (λ stepped. stepped ≢ stepped_spec.Refused refusal_spec.NoMemory → S.refused supply.new ≡ S.refused supply.old) }
+        ensures fault { IfErr result (λ fault. IsFaultAt line (S.refused supply.new) fault) }
     {
-        let found = found_by(&self.sight, &self.parties, action);
-        let acted = self.machine.act(supply, action, bytes, &mut self.buffers);
-        let outcome = outcome_of(&self.machine, &acted);
-        let facts = first_facts(supply, line, self.take_list(), found, outcome)?;
-        match acted {
+        let named = instructed(&self.parties, action);
+        add_beginning(supply, line, &self.sight, named, records)?;
+        match self.machine.act(supply, action, bytes, &mut self.buffers) {
             Ok(Acted::Replied) => {
-                self.tell(supply, line, facts, records)?;
+                self.tell(supply, line, records)?;
                 Ok(Stepped::Accepted)
             }
-            Ok(Acted::Looked(_)) => {
-                self.add(supply, facts, records)?;
+            Ok(Acted::Looked(found)) => {
+                add_looked(supply, line, found, records)?;
                 Ok(Stepped::Looked)
             }
             Err(fault) => {
-                let facts = self.with_reason(supply, facts, action, fault)?;
-                self.add(supply, facts, records)?;
+                add_refusal(supply, line, fault, records)?;
+                self.add_reason(supply, line, action, fault, records)?;
                 Ok(Stepped::Refused(fault))
             }
         }
     }
 
-    /// These facts of an action that was refused, and why.
-    fn with_reason<S: Supply>(
+    /// Why an action was refused, at a machine that is still as it was then.
+    #[inline(never)]
+    fn add_reason<S: Supply>(
         &self,
         supply: &mut S,
-        facts: StepFacts,
+        line: u64,
         action: &KeptAction,
         fault: Fault,
-    ) -> Result<StepFacts, AllocError>
-        ensures told { IfOk result (λ told. told ≡ facts) }
+        records: &mut Vec<Record>,
+    ) -> Result<(), AllocError>
+        ensures added { OnOk result (HasReason self.now.parties self.now.machine line fault records.old.items records.new.items) }
+        ensures unrefused { OnOk result (S.refused supply.new ≡ S.refused supply.old) }
         ensures memory { OnErr result (S.refused supply.new ≡ true) }
     {
         let machine = self.machine.subsystem();
         let refusal = refusal_of(machine, machine.storage(), &self.parties, action, fault);
-        let mut facts = facts;
-        facts.push(supply, Fact::Refused(refusal))?;
-        Ok(facts)
+        add_fact(supply, line, Fact::Refused(refusal), records)
     }
 
     /// The room for the facts of a step, emptied.
@@ -349,42 +438,31 @@ impl<J: MachineBrand> Tracer<J> {
         list
     }
 
-    /// Adds these facts.
-    fn add<S: Supply>(
-        &mut self,
-        supply: &mut S,
-        facts: StepFacts,
-        records: &mut Vec<Record>,
-    ) -> Result<(), AllocError>
-        ensures added { OnOk result (HasAdded facts records.old.items records.new.items) }
-        ensures kept { self.new ≡ self.old }
-        ensures memory { OnErr result (S.refused supply.new ≡ true) }
-    {
-        let mut list = facts.into_records();
-        add_all(supply, &mut list, records)?;
-        self.list = list;
-        Ok(())
-    }
-
-    /// Adds the facts of the event that was accepted last, which account for all that moved.
+    /// Adds the reply of the event that was accepted last and the facts of the event, which account for all that moved.
+    #[tactic(auto, using(crate::proofs::Faulting::want_at, crate::proofs::Faulting::sight_at))]
     fn tell<S: Supply>(
         &mut self,
         supply: &mut S,
         line: u64,
-        facts: StepFacts,
         records: &mut Vec<Record>,
     ) -> Result<(), TraceFault>
-        ensures { OnOk result (HasTold self.old facts records.old.items records.new.items self.new) }
+        ensures told { OnOk result (HasTold self.old line records.old.items records.new.items self.new) }
+        ensures unrefused { OnOk result (S.refused supply.new ≡ S.refused supply.old) }
+        ensures fault { IfErr result (λ fault. IsFaultAt line (S.refused supply.new) fault) }
     {
         let mut next = mem::replace(&mut self.next, Sight::none(self.alloc));
         if let Err(fault) = next.look(supply, self.machine.subsystem(), &self.parties) {
             return Err(fault_of(fault, line));
         }
-        let mut list = self.facts_to(supply, line, facts, &next)?;
+        let Some(entry) = last_entry(self.machine.subsystem()) else {
+            return Err(TraceFault::Unbalanced(line));
+        };
+        let mut list = self.facts_to(supply, line, &entry, &next)?;
         if !self.follow(supply, list.as_slice())? || self.requests.subclasses() != next.requested {
             return Err(TraceFault::Unbalanced(line));
         }
         self.next = mem::replace(&mut self.sight, next);
+        add_reply(supply, line, entry.reply, records)?;
         add_all(supply, &mut list, records)?;
         self.list = list;
         Ok(())
@@ -395,6 +473,7 @@ impl<J: MachineBrand> Tracer<J> {
         ensures balanced { IfOk result (λ followed. IsTrue followed → IsBalanced self.old.waiting list.now self.new.waiting) }
         ensures told { IfOk result (λ followed. IsTrue followed → TellsWaiting self.new.machine.past.state self.new.parties.subchannels.items self.new.waiting) }
         ensures kept { self.new ≡ record self.old { waiting = self.new.waiting } }
+        ensures unrefused { OnOk result (S.refused supply.new ≡ S.refused supply.old) }
         ensures memory { OnErr result (S.refused supply.new ≡ true) }
     {
         if !self.waiting.follow(supply, list)? {
@@ -403,36 +482,37 @@ impl<J: MachineBrand> Tracer<J> {
         Ok(self.waiting.tells(self.machine.subsystem(), &self.parties))
     }
 
-    /// The facts of the event that was accepted last, where a look now shows this, behind those of its line.
+    /// The facts of the event of this entry, where a look now shows this.
+    #[tactic(auto, using(crate::proofs::Faulting::want_at, crate::proofs::Faulting::sight_at))]
     fn facts_to<S: Supply>(
         &mut self,
         supply: &mut S,
         line: u64,
-        facts: StepFacts,
+        entry: &Entry,
         after: &Sight,
     ) -> Result<Vec<Record>, TraceFault>
-        ensures answers { IfOk result (λ list. answers_of list.items ≡ facts.answers) }
-        ensures moves { IfOk result (λ list. (entry : Entry) → IsLast self.old.machine.past.history entry → IsMovedBy self.old.parties self.old.sight entry facts list.items) }
-        ensures holds { IfOk result (λ list. AreHeldBy self.old.sight after.now facts list.items) }
+        ensures answers { IfOk result (λ list. answers_of list.items ≡ []) }
+        ensures moves { IfOk result (λ list. IsMovedBy self.old.parties self.old.sight entry.now list.items) }
+        ensures holds { IfOk result (λ list. AreHeldBy self.old.sight after.now list.items) }
         ensures kept { self.new ≡ self.old }
+        ensures unrefused { OnOk result (S.refused supply.new ≡ S.refused supply.old) }
+        ensures fault { IfErr result (λ fault. IsFaultAt line (S.refused supply.new) fault) }
     {
-        let Some(entry) = last_entry(self.machine.subsystem()) else {
-            return Err(TraceFault::Unbalanced(line));
-        };
+        let mut facts = StepFacts::new(line, self.take_list());
         let step = Step {
             parties: &self.parties,
             path_return: self.path_return,
             subchannel: named_by(&self.parties, &entry.event),
             before: &self.sight,
             waiting: &self.waiting,
-            entry: &entry,
+            event: &entry.event,
+            reply: &entry.reply,
             after,
         };
         let looks = self.machine.subsystem();
-        let mut facts = facts;
         match add_facts(supply, &step, looks, &mut self.requests, &mut facts) {
             Ok(()) => Ok(facts.into_records()),
-            Err(fault) => Err(fault_of_facts(fault, line)),
+            Err(fault) => Err(fault_of(fault, line)),
         }
     }
 }

@@ -1,6 +1,6 @@
 //! Channel paths that came up or went down, and what is reported of them.
 
-ghost use Rattle.std.specs.Prelude.{◌≡◌};
+ghost use Rattle.std.specs.Prelude.{◌≡◌, OnErr, OnOk, true};
 
 use crate::step::{Step, StepFacts};
 use chan_events::event::Event;
@@ -17,7 +17,9 @@ pub(crate) fn add_paths<S: Supply>(
     step: &Step<'_>,
     facts: &mut StepFacts,
 ) -> Result<(), AllocError>
-    ensures { facts.new ≡ facts.old }
+    ensures kept { facts.new ≡ facts.old }
+    ensures unrefused { OnOk result (S.refused supply.new ≡ S.refused supply.old) }
+    ensures memory { OnErr result (S.refused supply.new ≡ true) }
 {
     for index in 0..step
         .before
@@ -28,11 +30,24 @@ pub(crate) fn add_paths<S: Supply>(
     {
         let up = step.after.up[index];
         if step.before.up[index] != up {
-            let chpid = step.parties.paths[index];
-            facts.push(supply, Fact::PathState { chpid, up })?;
+            push_path(supply, step.parties.paths[index], up, facts)?;
         }
     }
     Ok(())
+}
+
+#[inline(never)]
+fn push_path<S: Supply>(
+    supply: &mut S,
+    chpid: u8,
+    up: bool,
+    facts: &mut StepFacts,
+) -> Result<(), AllocError>
+    ensures kept { facts.new ≡ facts.old }
+    ensures unrefused { OnOk result (S.refused supply.new ≡ S.refused supply.old) }
+    ensures memory { OnErr result (S.refused supply.new ≡ true) }
+{
+    facts.push(supply, Fact::PathState { chpid, up })
 }
 
 /// What the event reports of which channel path.
@@ -51,16 +66,12 @@ pub(crate) fn add_reports<S: Supply>(
     step: &Step<'_>,
     facts: &mut StepFacts,
 ) -> Result<(), AllocError>
-    ensures { facts.new ≡ facts.old }
+    ensures kept { facts.new ≡ facts.old }
+    ensures unrefused { OnOk result (S.refused supply.new ≡ S.refused supply.old) }
+    ensures memory { OnErr result (S.refused supply.new ≡ true) }
 {
     if let Reply::ChannelReport(Some(crw)) = step.reply() {
-        return facts.push(
-            supply,
-            Fact::Report {
-                change: ReportChange::TakenOut,
-                crw: *crw,
-            },
-        );
+        return push_report(supply, ReportChange::TakenOut, *crw, facts);
     }
     let Some((report, chpid)) = reported(step.event(), step.path_return) else {
         return Ok(());
@@ -75,5 +86,19 @@ pub(crate) fn add_reports<S: Supply>(
         overflow: false,
         path: (chpid % 256) as u8,
     };
+    push_report(supply, change, crw, facts)
+}
+
+#[inline(never)]
+fn push_report<S: Supply>(
+    supply: &mut S,
+    change: ReportChange,
+    crw: Crw,
+    facts: &mut StepFacts,
+) -> Result<(), AllocError>
+    ensures kept { facts.new ≡ facts.old }
+    ensures unrefused { OnOk result (S.refused supply.new ≡ S.refused supply.old) }
+    ensures memory { OnErr result (S.refused supply.new ≡ true) }
+{
     facts.push(supply, Fact::Report { change, crw })
 }

@@ -1,13 +1,15 @@
 //! The blocks of a program that took control, and the bytes that moved between storage and the wires.
 
-ghost use Rattle.std.specs.Prelude.{◌≡◌};
+ghost use Rattle.std.specs.Prelude.{◌≡◌, ◌≤◌, length, OnErr, OnOk, true};
 
 use crate::step::{Step, StepFacts};
 use ccw_codec::Format;
+use ccw_walk::program::Latest;
 use chan_events::reply::Reply;
 use chan_model::chunk::Chunk;
 use chan_model::signal::{Down, Load, Up};
 use data_move::transfer::Transfer;
+use functions::state::PackedState;
 use memory::Supply;
 use std::alloc::AllocError;
 use step_records::record::{Direction, Fact};
@@ -15,20 +17,28 @@ use subchannel_model::state::ActiveProgram;
 
 /// The program that holds the device of the subchannel that a step names, before it and after it.
 #[derive(Drop)]
-struct AtWork {
+struct AtWork<'a> {
     subchannel: usize,
-    before: Option<ActiveProgram>,
-    after: Option<ActiveProgram>,
+    before: Option<&'a ActiveProgram>,
+    after: Option<&'a ActiveProgram>,
 }
 
-fn at_work(step: &Step<'_>) -> Option<AtWork> {
+/// A program that holds the device, lent.
+fn begun_of(seen: &PackedState) -> Option<&ActiveProgram> {
+    match &seen.rest().begun {
+        Some(begun) => Some(begun),
+        None => None,
+    }
+}
+
+fn at_work<'a>(step: &Step<'a>) -> Option<AtWork<'a>> {
     let subchannel = step.subchannel?;
     let before = step.before.subchannels.as_slice().get(subchannel)?;
     let after = step.after.subchannels.as_slice().get(subchannel)?;
     Some(AtWork {
         subchannel,
-        before: before.rest().begun,
-        after: after.rest().begun,
+        before: begun_of(before),
+        after: begun_of(after),
     })
 }
 
@@ -50,7 +60,9 @@ pub(crate) fn add_data<S: Supply>(
     step: &Step<'_>,
     facts: &mut StepFacts,
 ) -> Result<(), AllocError>
-    ensures { facts.new ≡ facts.old }
+    ensures kept { facts.new ≡ facts.old }
+    ensures unrefused { OnOk result (S.refused supply.new ≡ S.refused supply.old) }
+    ensures memory { OnErr result (S.refused supply.new ≡ true) }
 {
     let Some(work) = at_work(step) else {
         return Ok(());
@@ -61,7 +73,7 @@ pub(crate) fn add_data<S: Supply>(
 }
 
 /// Whether the last chunk that a program moved was refused by storage: a check was found by the step.
-fn is_refused(work: &AtWork) -> bool {
+fn is_refused(work: &AtWork<'_>) -> bool {
     match (work.before, work.after) {
         (Some(before), Some(after)) => {
             before.transfer.fault.is_some()
@@ -76,10 +88,12 @@ fn is_refused(work: &AtWork) -> bool {
 fn add_stored<S: Supply>(
     supply: &mut S,
     step: &Step<'_>,
-    work: &AtWork,
+    work: &AtWork<'_>,
     facts: &mut StepFacts,
 ) -> Result<(), AllocError>
-    ensures { facts.new ≡ facts.old }
+    ensures kept { facts.new ≡ facts.old }
+    ensures unrefused { OnOk result (S.refused supply.new ≡ S.refused supply.old) }
+    ensures memory { OnErr result (S.refused supply.new ≡ true) }
 {
     let (Some(Load::Bytes(bytes)), Some(before)) = (brought(step), work.before) else {
         return Ok(());
@@ -93,19 +107,42 @@ fn add_stored<S: Supply>(
     if stored.is_empty() || is_refused(work) || !is_new_chunk(work) {
         return Ok(());
     }
+    push_copy(
+        supply,
+        work.subchannel,
+        Direction::Stored,
+        (address, stored),
+        facts,
+    )
+}
+
+/// Bytes that moved, and the address of the first.
+#[inline(never)]
+fn push_copy<S: Supply>(
+    supply: &mut S,
+    subchannel: usize,
+    direction: Direction,
+    copied: (u32, &[u8]),
+    facts: &mut StepFacts,
+) -> Result<(), AllocError>
+    requires { length copied.entry.1.now ≤ 256 }
+    ensures kept { facts.new ≡ facts.old }
+    ensures unrefused { OnOk result (S.refused supply.new ≡ S.refused supply.old) }
+    ensures memory { OnErr result (S.refused supply.new ≡ true) }
+{
     facts.push(
         supply,
         Fact::Copy {
-            subchannel: work.subchannel,
-            direction: Direction::Stored,
-            address,
-            bytes: Chunk::of(stored),
+            subchannel,
+            direction,
+            address: copied.0,
+            bytes: Chunk::of(copied.1),
         },
     )
 }
 
 /// Whether the step went on by a chunk.
-fn is_new_chunk(work: &AtWork) -> bool {
+fn is_new_chunk(work: &AtWork<'_>) -> bool {
     match (work.before, work.after) {
         (Some(before), Some(after)) => before.transfer.sequence != after.transfer.sequence,
         _ => false,
@@ -116,10 +153,12 @@ fn is_new_chunk(work: &AtWork) -> bool {
 fn add_block<S: Supply>(
     supply: &mut S,
     step: &Step<'_>,
-    work: &AtWork,
+    work: &AtWork<'_>,
     facts: &mut StepFacts,
 ) -> Result<(), AllocError>
-    ensures { facts.new ≡ facts.old }
+    ensures kept { facts.new ≡ facts.old }
+    ensures unrefused { OnOk result (S.refused supply.new ≡ S.refused supply.old) }
+    ensures memory { OnErr result (S.refused supply.new ≡ true) }
 {
     let Some(after) = work.after else {
         return Ok(());
@@ -131,14 +170,36 @@ fn add_block<S: Supply>(
     if same_command && is_same_block(step, work) {
         return Ok(());
     }
+    push_block(
+        supply,
+        work.subchannel,
+        &latest,
+        (format_of(after), same_command),
+        facts,
+    )
+}
+
+/// A block that took control: its format, and whether it goes on with the data of the one before.
+#[inline(never)]
+fn push_block<S: Supply>(
+    supply: &mut S,
+    subchannel: usize,
+    latest: &Latest,
+    taken: (Format, bool),
+    facts: &mut StepFacts,
+) -> Result<(), AllocError>
+    ensures kept { facts.new ≡ facts.old }
+    ensures unrefused { OnOk result (S.refused supply.new ≡ S.refused supply.old) }
+    ensures memory { OnErr result (S.refused supply.new ≡ true) }
+{
     facts.push(
         supply,
         Fact::Ccw {
-            subchannel: work.subchannel,
+            subchannel,
             address: latest.address,
-            format: format_of(&after),
+            format: taken.0,
             ccw: latest.ccw,
-            goes_on: same_command,
+            goes_on: taken.1,
         },
     )
 }
@@ -152,7 +213,7 @@ fn format_of(begun: &ActiveProgram) -> Format {
 }
 
 /// Whether the command at work is that of before.
-fn is_same_command(work: &AtWork) -> bool {
+fn is_same_command(work: &AtWork<'_>) -> bool {
     match (work.before, work.after) {
         (Some(before), Some(after)) => {
             before.program.start == after.program.start
@@ -164,7 +225,7 @@ fn is_same_command(work: &AtWork) -> bool {
 
 /// Whether the block whose data is moved is that of before: it stands at the same address, and as much less of its count is to be
 /// moved as a new chunk moved.
-fn is_same_block(step: &Step<'_>, work: &AtWork) -> bool {
+fn is_same_block(step: &Step<'_>, work: &AtWork<'_>) -> bool {
     match (work.before, work.after) {
         (Some(before), Some(after)) => {
             before.transfer.walk.latest() == after.transfer.walk.latest()
@@ -174,7 +235,7 @@ fn is_same_block(step: &Step<'_>, work: &AtWork) -> bool {
     }
 }
 
-fn is_moved_on(step: &Step<'_>, work: &AtWork, before: &Transfer, after: &Transfer) -> bool {
+fn is_moved_on(step: &Step<'_>, work: &AtWork<'_>, before: &Transfer, after: &Transfer) -> bool {
     let left = before.moving.residual();
     let moved = match brought(step) {
         Some(load) if is_new_chunk(work) && before.fault.is_none() => {
@@ -190,10 +251,12 @@ fn is_moved_on(step: &Step<'_>, work: &AtWork, before: &Transfer, after: &Transf
 fn add_fetched<S: Supply>(
     supply: &mut S,
     step: &Step<'_>,
-    work: &AtWork,
+    work: &AtWork<'_>,
     facts: &mut StepFacts,
 ) -> Result<(), AllocError>
-    ensures { facts.new ≡ facts.old }
+    ensures kept { facts.new ≡ facts.old }
+    ensures unrefused { OnOk result (S.refused supply.new ≡ S.refused supply.old) }
+    ensures memory { OnErr result (S.refused supply.new ≡ true) }
 {
     let (Reply::Up { sent: Some(on), .. }, Some(after)) = (step.reply(), work.after) else {
         return Ok(());
@@ -202,14 +265,12 @@ fn add_fetched<S: Supply>(
         return Ok(());
     };
     match after.transfer.moving.place() {
-        Some(address) if bytes.len() != 0 => facts.push(
+        Some(address) if bytes.len() != 0 => push_copy(
             supply,
-            Fact::Copy {
-                subchannel: work.subchannel,
-                direction: Direction::Fetched,
-                address,
-                bytes: bytes.copy(),
-            },
+            work.subchannel,
+            Direction::Fetched,
+            (address, bytes.as_slice()),
+            facts,
         ),
         _ => Ok(()),
     }

@@ -1,6 +1,6 @@
 //! How the subsystem's side of a subchannel changed.
 
-ghost use Rattle.std.specs.Prelude.{◌≡◌, ◌++◌, OnOk, length, slice_get};
+ghost use Rattle.std.specs.Prelude.{◌≡◌, ◌++◌, OnOk, length, slice_get, OnErr, true};
 ghost use Rattle.step_facts.specs.Holds as spec;
 ghost use Rattle.step_facts.specs.Told.{OnlyHeld, with_holds};
 
@@ -87,6 +87,8 @@ fn add_hold<S: Supply>(
 ) -> Result<(), AllocError>
     ensures told { OnOk result (facts.new ≡ with_holds facts.old (spec.hold_change ending subchannel seen.entry.0.now.state.hold seen.entry.1.now.state.hold)) }
     ensures only { OnlyHeld facts.old facts.new }
+    ensures unrefused { OnOk result (S.refused supply.new ≡ S.refused supply.old) }
+    ensures memory { OnErr result (S.refused supply.new ≡ true) }
 {
     let before = &seen.0.rest().hold;
     let after = &seen.1.rest().hold;
@@ -108,6 +110,8 @@ fn add_hold_at<S: Supply>(
 ) -> Result<(), AllocError>
     ensures told { OnOk result (facts.new ≡ with_holds facts.old (spec.hold_change_at ending subchannel (slice_get step.now.before.now.subchannels.items subchannel) (slice_get step.now.after.now.subchannels.items subchannel))) }
     ensures only { OnlyHeld facts.old facts.new }
+    ensures unrefused { OnOk result (S.refused supply.new ≡ S.refused supply.old) }
+    ensures memory { OnErr result (S.refused supply.new ≡ true) }
 {
     match step.before.subchannel(subchannel) {
         None => Ok(()),
@@ -130,6 +134,8 @@ pub(crate) fn add_holds<S: Supply>(
 ) -> Result<(), AllocError>
     ensures told { OnOk result (facts.new ≡ with_holds facts.old (spec.hold_changes ending step.now.before.now.subchannels.items step.now.after.now.subchannels.items (length step.now.before.now.subchannels.items))) }
     ensures only { OnlyHeld facts.old facts.new }
+    ensures unrefused { OnOk result (S.refused supply.new ≡ S.refused supply.old) }
+    ensures memory { OnErr result (S.refused supply.new ≡ true) }
 {
     for subchannel in 0..step.before.subchannels.len() {
         add_hold_at(supply, step, subchannel, ending, facts)?;

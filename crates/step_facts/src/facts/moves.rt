@@ -1,18 +1,21 @@
 //! What moved on the wires.
 
-ghost use Rattle.std.specs.Prelude.{◌≡◌, ◌++◌, ◌∷◌, [], ℕ, Some, IfOk, OnOk, false, true};
+ghost use Rattle.machine_sight.specs.declared.looking.SightFault.TheVariants as fault_spec;
+ghost use Rattle.std.specs.Prelude.{◌≡◌, ◌≢◌, ◌++◌, ◌∷◌, [], ℕ, Some, IfOk, OnOk, false, true, OnErr, Err};
+ghost use Rattle.chan_model.specs.declared.signal.Down.TheVariants as down_spec;
 ghost use Rattle.step_facts.specs.Moves as spec;
 ghost use Rattle.step_facts.specs.Told.{OnlyMoved, with_moves};
 ghost use Rattle.step_records.specs.declared.record.Fact.TheVariants as fact_spec;
-ghost use Rattle.step_facts.specs.declared.step.FactFault.TheVariants as fault_spec;
+ghost use Rattle.step_records.specs.declared.record.Signal.TheVariants as signal_spec;
 
-use crate::step::{FactFault, Step, StepFacts};
+use crate::step::{Step, StepFacts};
 use chan_events::event::Event;
 use chan_events::reply::Reply;
 use chan_model::names::Path;
 use chan_model::signal::{Down, OnPath, Up};
 use machine::looks::Looks;
-use machine_sight::waiting::signal_at;
+use machine_sight::looking::SightFault;
+use machine_sight::waiting::{is_past, signal_at};
 use memory::Supply;
 use std::alloc::AllocError;
 use step_records::parties::word_of;
@@ -41,10 +44,11 @@ fn sent_as(available: bool) -> Moved
 }
 
 /// The wire of a path of a subchannel. Neither need be there.
-fn wire_at(subchannel: Option<usize>, path: u32, way: Way) -> Result<Wire, FactFault>
+fn wire_at(subchannel: Option<usize>, path: u32, way: Way) -> Result<Wire, SightFault>
     ensures named { IfOk result (λ wire. subchannel ≡ Some wire.subchannel) }
     ensures path { IfOk result (λ wire. wire.path ≡ path) }
     ensures way { IfOk result (λ wire. wire.way ≡ way) }
+    ensures memory { result ≢ Err fault_spec.NoMemory }
 {
     match (subchannel, Path::new(path)) {
         (Some(subchannel), Some(path)) => Ok(Wire {
@@ -52,8 +56,42 @@ fn wire_at(subchannel: Option<usize>, path: u32, way: Way) -> Result<Wire, FactF
             path,
             way,
         }),
-        _ => Err(FactFault::NotThere),
+        _ => Err(SightFault::NotThere),
     }
+}
+
+/// A signal down that moved.
+#[inline(never)]
+fn push_down<S: Supply>(
+    supply: &mut S,
+    wire: Wire,
+    moved: Moved,
+    signal: &Down,
+    facts: &mut StepFacts,
+) -> Result<(), AllocError>
+    ensures told { OnOk result (facts.new ≡ with_moves facts.old (fact_spec.Signal wire moved (signal_spec.Down signal.now) ∷ [])) }
+    ensures only { OnlyMoved facts.old facts.new }
+    ensures unrefused { OnOk result (S.refused supply.new ≡ S.refused supply.old) }
+    ensures memory { OnErr result (S.refused supply.new ≡ true) }
+{
+    facts.push_signal(supply, wire, moved, Signal::Down(signal.copy()))
+}
+
+/// A signal up that moved.
+#[inline(never)]
+fn push_up<S: Supply>(
+    supply: &mut S,
+    wire: Wire,
+    moved: Moved,
+    signal: &Up,
+    facts: &mut StepFacts,
+) -> Result<(), AllocError>
+    ensures told { OnOk result (facts.new ≡ with_moves facts.old (fact_spec.Signal wire moved (signal_spec.Up signal.now) ∷ [])) }
+    ensures only { OnlyMoved facts.old facts.new }
+    ensures unrefused { OnOk result (S.refused supply.new ≡ S.refused supply.old) }
+    ensures memory { OnErr result (S.refused supply.new ≡ true) }
+{
+    facts.push_signal(supply, wire, moved, Signal::Up(signal.copy()))
 }
 
 /// The signal that was met at its end of the wire that the event names.
@@ -62,15 +100,17 @@ pub(crate) fn add_met<S: Supply>(
     supply: &mut S,
     step: &Step<'_>,
     facts: &mut StepFacts,
-) -> Result<(), FactFault>
-    ensures told { OnOk result ((sub : ℕ) → step.now.subchannel ≡ Some sub → facts.new ≡ with_moves facts.old (spec.met_of sub step.now.entry.now.event step.now.entry.now.reply)) }
+) -> Result<(), SightFault>
+    ensures told { OnOk result ((sub : ℕ) → step.now.subchannel ≡ Some sub → facts.new ≡ with_moves facts.old (spec.met_of sub step.now.event.now step.now.reply.now)) }
     ensures only { OnOk result (OnlyMoved facts.old facts.new) }
+    ensures unrefused { OnOk result (S.refused supply.new ≡ S.refused supply.old) }
+    ensures memory { result ≡ Err fault_spec.NoMemory → S.refused supply.new ≡ true }
 {
     match step.event() {
         Event::Up { path, .. } => match step.reply() {
             Reply::Up { signal, taken, .. } => {
                 let wire = wire_at(step.subchannel, *path, Way::Up)?;
-                facts.push_signal(supply, wire, met_as(*taken), Signal::Up(signal.copy()))?;
+                push_up(supply, wire, met_as(*taken), signal, facts)?;
                 Ok(())
             }
             _ => Ok(()),
@@ -78,7 +118,7 @@ pub(crate) fn add_met<S: Supply>(
         Event::Down { path, .. } => match step.reply() {
             Reply::Down { signal, taken, .. } => {
                 let wire = wire_at(step.subchannel, *path, Way::Down)?;
-                facts.push_signal(supply, wire, met_as(*taken), Signal::Down(signal.copy()))?;
+                push_down(supply, wire, met_as(*taken), signal, facts)?;
                 Ok(())
             }
             _ => Ok(()),
@@ -105,7 +145,9 @@ pub(crate) fn add_lost<S: Supply, L: Looks>(
     facts: &mut StepFacts,
 ) -> Result<(), AllocError>
     ensures only { OnlyMoved facts.old facts.new }
-    ensures none { spec.is_told_by_reply step.now.entry.now.event ≡ true → facts.new ≡ facts.old }
+    ensures none { spec.is_told_by_reply step.now.event.now ≡ true → facts.new ≡ facts.old }
+    ensures unrefused { OnOk result (S.refused supply.new ≡ S.refused supply.old) }
+    ensures memory { OnErr result (S.refused supply.new ≡ true) }
 {
     if loses(step.event()) {
         add_all_lost(supply, step, looks, facts)
@@ -122,6 +164,8 @@ fn add_all_lost<S: Supply, L: Looks>(
     facts: &mut StepFacts,
 ) -> Result<(), AllocError>
     ensures only { OnlyMoved facts.old facts.new }
+    ensures unrefused { OnOk result (S.refused supply.new ≡ S.refused supply.old) }
+    ensures memory { OnErr result (S.refused supply.new ≡ true) }
 {
     for subchannel in 0..step.parties.subchannels.len() {
         let word = word_of(step.parties.subchannels[subchannel].id);
@@ -141,6 +185,8 @@ fn add_lost_of<S: Supply>(
     facts: &mut StepFacts,
 ) -> Result<(), AllocError>
     ensures only { OnlyMoved facts.old facts.new }
+    ensures unrefused { OnOk result (S.refused supply.new ≡ S.refused supply.old) }
+    ensures memory { OnErr result (S.refused supply.new ≡ true) }
 {
     for index in 0..8u32 {
         if let Some(path) = Path::new(index) {
@@ -176,7 +222,7 @@ fn wire_of(subchannel: usize, path: Path, way: Way) -> Wire
 /// How many signals wait on a wire.
 fn count_on(wires: &Wires, wire: &Wire) -> usize {
     for count in 0..WIRE_ROOM {
-        if signal_at(wires, wire.way, wire.path, count).is_none() {
+        if is_past(wires, wire.way, wire.path, count) {
             return count;
         }
     }
@@ -192,6 +238,8 @@ fn add_lost_on<S: Supply>(
     facts: &mut StepFacts,
 ) -> Result<(), AllocError>
     ensures only { OnlyMoved facts.old facts.new }
+    ensures unrefused { OnOk result (S.refused supply.new ≡ S.refused supply.old) }
+    ensures memory { OnErr result (S.refused supply.new ≡ true) }
 {
     let before = step.waiting.signals(wire);
     let left = count_on(wires, wire);
@@ -210,10 +258,12 @@ pub(crate) fn add_sent<S: Supply, L: Looks>(
     step: &Step<'_>,
     looks: &L,
     facts: &mut StepFacts,
-) -> Result<(), FactFault>
-    ensures told { OnOk result ((sub : ℕ) → step.now.subchannel ≡ Some sub → spec.is_told_by_reply step.now.entry.now.event ≡ true →
-        facts.new ≡ with_moves facts.old (spec.sent_of step.now.before.now sub step.now.entry.now.reply)) }
+) -> Result<(), SightFault>
+    ensures told { OnOk result ((sub : ℕ) → step.now.subchannel ≡ Some sub → spec.is_told_by_reply step.now.event.now ≡ true →
+        facts.new ≡ with_moves facts.old (spec.sent_of step.now.before.now sub step.now.reply.now)) }
     ensures only { OnOk result (OnlyMoved facts.old facts.new) }
+    ensures unrefused { OnOk result (S.refused supply.new ≡ S.refused supply.old) }
+    ensures memory { result ≡ Err fault_spec.NoMemory → S.refused supply.new ≡ true }
 {
     match step.event() {
         Event::Report { unit, .. } | Event::Act { unit, .. } => {
@@ -225,7 +275,7 @@ pub(crate) fn add_sent<S: Supply, L: Looks>(
                 add_replied(supply, step, subchannel, facts)?;
                 Ok(())
             }
-            None => Err(FactFault::NotThere),
+            None => Err(SightFault::NotThere),
         },
         _ => Ok(()),
     }
@@ -239,56 +289,83 @@ fn add_replied<S: Supply>(
     subchannel: usize,
     facts: &mut StepFacts,
 ) -> Result<(), AllocError>
-    ensures told { OnOk result (facts.new ≡ with_moves facts.old (spec.sent_of step.now.before.now subchannel step.now.entry.now.reply)) }
+    ensures told { OnOk result (facts.new ≡ with_moves facts.old (spec.sent_of step.now.before.now subchannel step.now.reply.now)) }
     ensures only { OnlyMoved facts.old facts.new }
+    ensures unrefused { OnOk result (S.refused supply.new ≡ S.refused supply.old) }
+    ensures memory { OnErr result (S.refused supply.new ≡ true) }
 {
     match step.reply() {
         Reply::Offered { number, path, .. } => {
-            let select = Down::Select { number: *number };
-            send_down(
-                supply,
-                step,
-                subchannel,
-                OnPath {
-                    path: *path,
-                    signal: select,
-                },
-                facts,
-            )
+            send_select(supply, step, subchannel, *number, *path, facts)
         }
         Reply::ResetSent { number, path } => {
-            let reset = Down::Reset {
-                number: *number,
-                restarts: known_restarts(step, subchannel),
-            };
-            send_down(
-                supply,
-                step,
-                subchannel,
-                OnPath {
-                    path: *path,
-                    signal: reset,
-                },
-                facts,
-            )
+            send_reset(supply, step, subchannel, *number, *path, facts)
         }
         Reply::HaltSent { number, path } => {
-            let halt = Down::Halt { number: *number };
-            send_down(
-                supply,
-                step,
-                subchannel,
-                OnPath {
-                    path: *path,
-                    signal: halt,
-                },
-                facts,
-            )
+            send_halt(supply, step, subchannel, *number, *path, facts)
         }
-        Reply::Up { sent: Some(on), .. } => send_down(supply, step, subchannel, on.copy(), facts),
-        Reply::Down { sent: Some(on), .. } => send_up(supply, step, subchannel, on.copy(), facts),
+        Reply::Up { sent: Some(on), .. } => send_down(supply, step, subchannel, on, facts),
+        Reply::Down { sent: Some(on), .. } => send_up(supply, step, subchannel, on, facts),
         _ => Ok(()),
     }
+}
+
+/// A program that was offered.
+#[inline(never)]
+fn send_select<S: Supply>(
+    supply: &mut S,
+    step: &Step<'_>,
+    subchannel: usize,
+    number: u64,
+    path: Path,
+    facts: &mut StepFacts,
+) -> Result<(), AllocError>
+    ensures told { OnOk result (facts.new ≡ with_moves facts.old (spec.sent_down step.now.before.now subchannel path (down_spec.Select number))) }
+    ensures only { OnlyMoved facts.old facts.new }
+    ensures unrefused { OnOk result (S.refused supply.new ≡ S.refused supply.old) }
+    ensures memory { OnErr result (S.refused supply.new ≡ true) }
+{
+    let signal = Down::Select { number };
+    send_down(supply, step, subchannel, &OnPath { path, signal }, facts)
+}
+
+/// A Reset.
+#[inline(never)]
+fn send_reset<S: Supply>(
+    supply: &mut S,
+    step: &Step<'_>,
+    subchannel: usize,
+    number: u64,
+    path: Path,
+    facts: &mut StepFacts,
+) -> Result<(), AllocError>
+    ensures told { OnOk result (facts.new ≡ with_moves facts.old (spec.sent_down step.now.before.now subchannel path (down_spec.Reset number (spec.known_restarts step.now.before.now subchannel)))) }
+    ensures only { OnlyMoved facts.old facts.new }
+    ensures unrefused { OnOk result (S.refused supply.new ≡ S.refused supply.old) }
+    ensures memory { OnErr result (S.refused supply.new ≡ true) }
+{
+    let restarts = known_restarts(step, subchannel);
+    let signal = Down::Reset { number, restarts };
+    send_down(supply, step, subchannel, &OnPath { path, signal }, facts)
+}
+
+/// A Halt.
+#[inline(never)]
+fn send_halt<S: Supply>(
+    supply: &mut S,
+    step: &Step<'_>,
+    subchannel: usize,
+    number: u64,
+    path: Path,
+    facts: &mut StepFacts,
+) -> Result<(), AllocError>
+    ensures told { OnOk result (facts.new ≡ with_moves facts.old (spec.sent_down step.now.before.now subchannel path (down_spec.Halt number))) }
+    ensures only { OnlyMoved facts.old facts.new }
+    ensures unrefused { OnOk result (S.refused supply.new ≡ S.refused supply.old) }
+    ensures memory { OnErr result (S.refused supply.new ≡ true) }
+{
+    let signal = Down::Halt { number };
+    send_down(supply, step, subchannel, &OnPath { path, signal }, facts)
 }
 
 /// A signal that was sent down.
@@ -296,15 +373,17 @@ fn send_down<S: Supply>(
     supply: &mut S,
     step: &Step<'_>,
     subchannel: usize,
-    on: OnPath<Down>,
+    on: &OnPath<Down>,
     facts: &mut StepFacts,
 ) -> Result<(), AllocError>
-    ensures told { OnOk result (facts.new ≡ with_moves facts.old (spec.sent_down step.now.before.now subchannel on.path on.signal)) }
+    ensures told { OnOk result (facts.new ≡ with_moves facts.old (spec.sent_down step.now.before.now subchannel on.now.path on.now.signal)) }
     ensures only { OnlyMoved facts.old facts.new }
+    ensures unrefused { OnOk result (S.refused supply.new ≡ S.refused supply.old) }
+    ensures memory { OnErr result (S.refused supply.new ≡ true) }
 {
     let moved = sent_as(step.before.is_available(subchannel, on.path));
     let wire = wire_of(subchannel, on.path, Way::Down);
-    facts.push_signal(supply, wire, moved, Signal::Down(on.signal))
+    push_down(supply, wire, moved, &on.signal, facts)
 }
 
 /// A signal that was sent up.
@@ -312,15 +391,17 @@ fn send_up<S: Supply>(
     supply: &mut S,
     step: &Step<'_>,
     subchannel: usize,
-    on: OnPath<Up>,
+    on: &OnPath<Up>,
     facts: &mut StepFacts,
 ) -> Result<(), AllocError>
-    ensures told { OnOk result (facts.new ≡ with_moves facts.old (spec.sent_up step.now.before.now subchannel on.path on.signal)) }
+    ensures told { OnOk result (facts.new ≡ with_moves facts.old (spec.sent_up step.now.before.now subchannel on.now.path on.now.signal)) }
     ensures only { OnlyMoved facts.old facts.new }
+    ensures unrefused { OnOk result (S.refused supply.new ≡ S.refused supply.old) }
+    ensures memory { OnErr result (S.refused supply.new ≡ true) }
 {
     let moved = sent_as(step.before.is_available(subchannel, on.path));
     let wire = wire_of(subchannel, on.path, Way::Up);
-    facts.push_signal(supply, wire, moved, Signal::Up(on.signal))
+    push_up(supply, wire, moved, &on.signal, facts)
 }
 
 /// The restart count of its unit that a subchannel knew before.
@@ -342,6 +423,8 @@ fn add_new<S: Supply, L: Looks>(
     facts: &mut StepFacts,
 ) -> Result<(), AllocError>
     ensures only { OnlyMoved facts.old facts.new }
+    ensures unrefused { OnOk result (S.refused supply.new ≡ S.refused supply.old) }
+    ensures memory { OnErr result (S.refused supply.new ≡ true) }
 {
     for subchannel in 0..step.parties.subchannels.len() {
         let setup = &step.parties.subchannels[subchannel];
@@ -363,6 +446,8 @@ fn add_new_of<S: Supply>(
     facts: &mut StepFacts,
 ) -> Result<(), AllocError>
     ensures only { OnlyMoved facts.old facts.new }
+    ensures unrefused { OnOk result (S.refused supply.new ≡ S.refused supply.old) }
+    ensures memory { OnErr result (S.refused supply.new ≡ true) }
 {
     for index in 0..8u32 {
         if let Some(path) = Path::new(index) {
@@ -387,12 +472,33 @@ fn add_new_on<S: Supply>(
     facts: &mut StepFacts,
 ) -> Result<(), AllocError>
     ensures only { OnlyMoved facts.old facts.new }
+    ensures unrefused { OnOk result (S.refused supply.new ≡ S.refused supply.old) }
+    ensures memory { OnErr result (S.refused supply.new ≡ true) }
 {
     for index in step.waiting.signals(wire).len()..WIRE_ROOM {
-        match signal_at(wires, wire.way, wire.path, index) {
-            Some(signal) => facts.push_signal(supply, *wire, Moved::Sent, signal)?,
-            None => return Ok(()),
+        if is_past(wires, wire.way, wire.path, index) {
+            return Ok(());
         }
+        push_new(supply, wire, wires, index, facts)?;
     }
     Ok(())
+}
+
+/// The signal of this index, which is new on a wire.
+#[inline(never)]
+fn push_new<S: Supply>(
+    supply: &mut S,
+    wire: &Wire,
+    wires: &Wires,
+    index: usize,
+    facts: &mut StepFacts,
+) -> Result<(), AllocError>
+    ensures only { OnlyMoved facts.old facts.new }
+    ensures unrefused { OnOk result (S.refused supply.new ≡ S.refused supply.old) }
+    ensures memory { OnErr result (S.refused supply.new ≡ true) }
+{
+    match signal_at(wires, wire.way, wire.path, index) {
+        Some(signal) => facts.push_signal(supply, *wire, Moved::Sent, signal),
+        None => Ok(()),
+    }
 }

@@ -1,11 +1,12 @@
 //! Status that was made and cleared, and why.
 
-ghost use Rattle.std.specs.Prelude.{◌≡◌};
+ghost use Rattle.std.specs.Prelude.{◌≡◌, OnErr, OnOk, true};
 
 use crate::step::{Step, StepFacts};
 use chan_events::event::Event;
 use chan_events::reply::Reply;
 use chan_model::signal::Up;
+use functions::state::PackedState;
 use memory::Supply;
 use std::alloc::AllocError;
 use step_records::record::{Cause, Fact};
@@ -60,28 +61,44 @@ pub(crate) fn add_made<S: Supply>(
     step: &Step<'_>,
     facts: &mut StepFacts,
 ) -> Result<(), AllocError>
-    ensures { facts.new ≡ facts.old }
+    ensures kept { facts.new ≡ facts.old }
+    ensures unrefused { OnOk result (S.refused supply.new ≡ S.refused supply.old) }
+    ensures memory { OnErr result (S.refused supply.new ≡ true) }
 {
     let count = step.before.subchannels.len();
     for subchannel in 0..count.min(step.after.subchannels.len()) {
         let before = step.before.subchannels[subchannel].rest().serials;
         let after = &step.after.subchannels[subchannel];
-        let serial = after.rest().serials.made;
-        if before.made < serial {
-            let words = *after.scsw_words();
-            let cause = cause_of(step.event(), step.reply(), &words);
-            facts.push(
-                supply,
-                Fact::StatusMade {
-                    subchannel,
-                    words,
-                    serial,
-                    cause,
-                },
-            )?;
+        if before.made < after.rest().serials.made {
+            push_made(supply, step, subchannel, after, facts)?;
         }
     }
     Ok(())
+}
+
+/// The last status that was made.
+#[inline(never)]
+fn push_made<S: Supply>(
+    supply: &mut S,
+    step: &Step<'_>,
+    subchannel: usize,
+    after: &PackedState,
+    facts: &mut StepFacts,
+) -> Result<(), AllocError>
+    ensures kept { facts.new ≡ facts.old }
+    ensures unrefused { OnOk result (S.refused supply.new ≡ S.refused supply.old) }
+    ensures memory { OnErr result (S.refused supply.new ≡ true) }
+{
+    let words = *after.scsw_words();
+    facts.push(
+        supply,
+        Fact::StatusMade {
+            subchannel,
+            words,
+            serial: after.rest().serials.made,
+            cause: cause_of(step.event(), step.reply(), &words),
+        },
+    )
 }
 
 /// The statuses that were cleared.
@@ -90,21 +107,31 @@ pub(crate) fn add_cleared<S: Supply>(
     step: &Step<'_>,
     facts: &mut StepFacts,
 ) -> Result<(), AllocError>
-    ensures { facts.new ≡ facts.old }
+    ensures kept { facts.new ≡ facts.old }
+    ensures unrefused { OnOk result (S.refused supply.new ≡ S.refused supply.old) }
+    ensures memory { OnErr result (S.refused supply.new ≡ true) }
 {
     let count = step.before.subchannels.len();
     for subchannel in 0..count.min(step.after.subchannels.len()) {
         let before = step.before.subchannels[subchannel].rest().serials;
         let after = step.after.subchannels[subchannel].rest().serials;
         if before.cleared < after.cleared {
-            facts.push(
-                supply,
-                Fact::StatusCleared {
-                    subchannel,
-                    serial: after.cleared,
-                },
-            )?;
+            push_cleared(supply, subchannel, after.cleared, facts)?;
         }
     }
     Ok(())
+}
+
+#[inline(never)]
+fn push_cleared<S: Supply>(
+    supply: &mut S,
+    subchannel: usize,
+    serial: u64,
+    facts: &mut StepFacts,
+) -> Result<(), AllocError>
+    ensures kept { facts.new ≡ facts.old }
+    ensures unrefused { OnOk result (S.refused supply.new ≡ S.refused supply.old) }
+    ensures memory { OnErr result (S.refused supply.new ≡ true) }
+{
+    facts.push(supply, Fact::StatusCleared { subchannel, serial })
 }

@@ -1,6 +1,6 @@
 //! How the words and the programs of a subchannel changed.
 
-ghost use Rattle.std.specs.Prelude.{◌≡◌};
+ghost use Rattle.std.specs.Prelude.{◌≡◌, OnErr, OnOk, true};
 
 use crate::step::{Step, StepFacts};
 use functions::rest::Rest;
@@ -8,6 +8,7 @@ use functions::state::PackedState;
 use memory::Supply;
 use std::alloc::AllocError;
 use step_records::record::{Fact, Mask, ProgramStage};
+use subchannel_model::state::Program;
 use zbits::flag;
 
 /// The resume-pending bit of word 0 of a subchannel-status word (SA22-7832, chapter 16).
@@ -27,7 +28,9 @@ pub(crate) fn add_changes<S: Supply>(
     step: &Step<'_>,
     facts: &mut StepFacts,
 ) -> Result<(), AllocError>
-    ensures { facts.new ≡ facts.old }
+    ensures kept { facts.new ≡ facts.old }
+    ensures unrefused { OnOk result (S.refused supply.new ≡ S.refused supply.old) }
+    ensures memory { OnErr result (S.refused supply.new ≡ true) }
 {
     let count = step.before.subchannels.len();
     for subchannel in 0..count.min(step.after.subchannels.len()) {
@@ -51,19 +54,37 @@ fn add_orb<S: Supply>(
     change: &Change<'_>,
     facts: &mut StepFacts,
 ) -> Result<(), AllocError>
-    ensures { facts.new ≡ facts.old }
+    ensures kept { facts.new ≡ facts.old }
+    ensures unrefused { OnOk result (S.refused supply.new ≡ S.refused supply.old) }
+    ensures memory { OnErr result (S.refused supply.new ≡ true) }
 {
     let after = change.after.rest();
-    match after.waiting {
-        Some(program) if change.before.rest().starts < after.starts => facts.push(
-            supply,
-            Fact::Orb {
-                subchannel: change.subchannel,
-                orb: program.orb,
-            },
-        ),
+    match &after.waiting {
+        Some(program) if change.before.rest().starts < after.starts => {
+            push_orb(supply, change.subchannel, program, facts)
+        }
         _ => Ok(()),
     }
+}
+
+#[inline(never)]
+fn push_orb<S: Supply>(
+    supply: &mut S,
+    subchannel: usize,
+    program: &Program,
+    facts: &mut StepFacts,
+) -> Result<(), AllocError>
+    ensures kept { facts.new ≡ facts.old }
+    ensures unrefused { OnOk result (S.refused supply.new ≡ S.refused supply.old) }
+    ensures memory { OnErr result (S.refused supply.new ≡ true) }
+{
+    facts.push(
+        supply,
+        Fact::Orb {
+            subchannel,
+            orb: program.orb,
+        },
+    )
 }
 
 /// The enabled bit, the interruption subclass and the multipath mode, where one of them changed.
@@ -72,7 +93,9 @@ fn add_enabled<S: Supply>(
     change: &Change<'_>,
     facts: &mut StepFacts,
 ) -> Result<(), AllocError>
-    ensures { facts.new ≡ facts.old }
+    ensures kept { facts.new ≡ facts.old }
+    ensures unrefused { OnOk result (S.refused supply.new ≡ S.refused supply.old) }
+    ensures memory { OnErr result (S.refused supply.new ≡ true) }
 {
     let before = change.before;
     let after = change.after;
@@ -82,10 +105,24 @@ fn add_enabled<S: Supply>(
     {
         return Ok(());
     }
+    push_enabled(supply, change.subchannel, after, facts)
+}
+
+#[inline(never)]
+fn push_enabled<S: Supply>(
+    supply: &mut S,
+    subchannel: usize,
+    after: &PackedState,
+    facts: &mut StepFacts,
+) -> Result<(), AllocError>
+    ensures kept { facts.new ≡ facts.old }
+    ensures unrefused { OnOk result (S.refused supply.new ≡ S.refused supply.old) }
+    ensures memory { OnErr result (S.refused supply.new ≡ true) }
+{
     facts.push(
         supply,
         Fact::Enabled {
-            subchannel: change.subchannel,
+            subchannel,
             enabled: after.is_enabled(),
             subclass: after.subclass(),
             multipath: after.is_multipath(),
@@ -99,17 +136,34 @@ fn add_functions<S: Supply>(
     change: &Change<'_>,
     facts: &mut StepFacts,
 ) -> Result<(), AllocError>
-    ensures { facts.new ≡ facts.old }
+    ensures kept { facts.new ≡ facts.old }
+    ensures unrefused { OnOk result (S.refused supply.new ≡ S.refused supply.old) }
+    ensures memory { OnErr result (S.refused supply.new ≡ true) }
 {
     let before = change.before.scsw_words()[0];
     let after = change.after.scsw_words()[0];
     if before == after {
         return Ok(());
     }
+    push_functions(supply, change.subchannel, before, after, facts)
+}
+
+#[inline(never)]
+fn push_functions<S: Supply>(
+    supply: &mut S,
+    subchannel: usize,
+    before: u32,
+    after: u32,
+    facts: &mut StepFacts,
+) -> Result<(), AllocError>
+    ensures kept { facts.new ≡ facts.old }
+    ensures unrefused { OnOk result (S.refused supply.new ≡ S.refused supply.old) }
+    ensures memory { OnErr result (S.refused supply.new ≡ true) }
+{
     facts.push(
         supply,
         Fact::Functions {
-            subchannel: change.subchannel,
+            subchannel,
             before,
             after,
         },
@@ -133,7 +187,9 @@ fn add_masks<S: Supply>(
     change: &Change<'_>,
     facts: &mut StepFacts,
 ) -> Result<(), AllocError>
-    ensures { facts.new ≡ facts.old }
+    ensures kept { facts.new ≡ facts.old }
+    ensures unrefused { OnOk result (S.refused supply.new ≡ S.refused supply.old) }
+    ensures memory { OnErr result (S.refused supply.new ≡ true) }
 {
     for mask in [
         Mask::Logical,
@@ -145,32 +201,48 @@ fn add_masks<S: Supply>(
         let before = mask_of(change.before, mask);
         let after = mask_of(change.after, mask);
         if before != after {
-            facts.push(
-                supply,
-                Fact::Mask {
-                    subchannel: change.subchannel,
-                    mask,
-                    before,
-                    after,
-                },
-            )?;
+            push_mask(supply, change.subchannel, mask, (before, after), facts)?;
         }
     }
     Ok(())
 }
 
+/// A mask, as it was before and as it is after.
+#[inline(never)]
+fn push_mask<S: Supply>(
+    supply: &mut S,
+    subchannel: usize,
+    mask: Mask,
+    seen: (u8, u8),
+    facts: &mut StepFacts,
+) -> Result<(), AllocError>
+    ensures kept { facts.new ≡ facts.old }
+    ensures unrefused { OnOk result (S.refused supply.new ≡ S.refused supply.old) }
+    ensures memory { OnErr result (S.refused supply.new ≡ true) }
+{
+    facts.push(
+        supply,
+        Fact::Mask {
+            subchannel,
+            mask,
+            before: seen.0,
+            after: seen.1,
+        },
+    )
+}
+
 /// The starts of which there is a program: that which holds the device, that which waits, that which is suspended.
 fn starts_of(rest: &Rest) -> [Option<u64>; 3] {
     [
-        match rest.begun {
+        match &rest.begun {
             Some(begun) => Some(begun.program.start),
             None => None,
         },
-        match rest.waiting {
+        match &rest.waiting {
             Some(waiting) => Some(waiting.start),
             None => None,
         },
-        match rest.suspended {
+        match &rest.suspended {
             Some(suspended) => Some(suspended.program.start),
             None => None,
         },
@@ -201,7 +273,9 @@ fn add_programs<S: Supply>(
     change: &Change<'_>,
     facts: &mut StepFacts,
 ) -> Result<(), AllocError>
-    ensures { facts.new ≡ facts.old }
+    ensures kept { facts.new ≡ facts.old }
+    ensures unrefused { OnOk result (S.refused supply.new ≡ S.refused supply.old) }
+    ensures memory { OnErr result (S.refused supply.new ≡ true) }
 {
     let known = starts_of(change.before.rest());
     for start in known {
@@ -222,7 +296,9 @@ fn add_program<S: Supply>(
     start: Option<u64>,
     facts: &mut StepFacts,
 ) -> Result<(), AllocError>
-    ensures { facts.new ≡ facts.old }
+    ensures kept { facts.new ≡ facts.old }
+    ensures unrefused { OnOk result (S.refused supply.new ≡ S.refused supply.old) }
+    ensures memory { OnErr result (S.refused supply.new ≡ true) }
 {
     let Some(start) = start else {
         return Ok(());
@@ -231,10 +307,25 @@ fn add_program<S: Supply>(
     if stage == stage_of(change.before, start) {
         return Ok(());
     }
+    push_program(supply, change.subchannel, start, stage, facts)
+}
+
+#[inline(never)]
+fn push_program<S: Supply>(
+    supply: &mut S,
+    subchannel: usize,
+    start: u64,
+    stage: ProgramStage,
+    facts: &mut StepFacts,
+) -> Result<(), AllocError>
+    ensures kept { facts.new ≡ facts.old }
+    ensures unrefused { OnOk result (S.refused supply.new ≡ S.refused supply.old) }
+    ensures memory { OnErr result (S.refused supply.new ≡ true) }
+{
     facts.push(
         supply,
         Fact::Program {
-            subchannel: change.subchannel,
+            subchannel,
             start,
             stage,
         },

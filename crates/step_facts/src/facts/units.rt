@@ -1,6 +1,6 @@
 //! How units changed, and what their devices did.
 
-ghost use Rattle.std.specs.Prelude.{◌≡◌};
+ghost use Rattle.std.specs.Prelude.{◌≡◌, OnErr, OnOk, true};
 
 use crate::step::{Step, StepFacts};
 use chan_events::event::Event;
@@ -68,21 +68,16 @@ pub(crate) fn add_units<S: Supply>(
     step: &Step<'_>,
     facts: &mut StepFacts,
 ) -> Result<(), AllocError>
-    ensures { facts.new ≡ facts.old }
+    ensures kept { facts.new ≡ facts.old }
+    ensures unrefused { OnOk result (S.refused supply.new ≡ S.refused supply.old) }
+    ensures memory { OnErr result (S.refused supply.new ≡ true) }
 {
     let count = step.before.units.len();
     for unit in 0..count.min(step.after.units.len()) {
         let before = owner_of(step.parties, unit, &step.before.units[unit]);
         let after = owner_of(step.parties, unit, &step.after.units[unit]);
         if before != after {
-            facts.push(
-                supply,
-                Fact::Owner {
-                    unit,
-                    before,
-                    after,
-                },
-            )?;
+            push_owner(supply, unit, before, after, facts)?;
         }
         add_command(
             supply,
@@ -95,6 +90,28 @@ pub(crate) fn add_units<S: Supply>(
     add_attention(supply, step, facts)
 }
 
+#[inline(never)]
+fn push_owner<S: Supply>(
+    supply: &mut S,
+    unit: usize,
+    before: Owner,
+    after: Owner,
+    facts: &mut StepFacts,
+) -> Result<(), AllocError>
+    ensures kept { facts.new ≡ facts.old }
+    ensures unrefused { OnOk result (S.refused supply.new ≡ S.refused supply.old) }
+    ensures memory { OnErr result (S.refused supply.new ≡ true) }
+{
+    facts.push(
+        supply,
+        Fact::Owner {
+            unit,
+            before,
+            after,
+        },
+    )
+}
+
 /// The command at hand of a unit, where it changed.
 fn add_command<S: Supply>(
     supply: &mut S,
@@ -103,13 +120,30 @@ fn add_command<S: Supply>(
     after: &UnitState,
     facts: &mut StepFacts,
 ) -> Result<(), AllocError>
-    ensures { facts.new ≡ facts.old }
+    ensures kept { facts.new ≡ facts.old }
+    ensures unrefused { OnOk result (S.refused supply.new ≡ S.refused supply.old) }
+    ensures memory { OnErr result (S.refused supply.new ≡ true) }
 {
     let before = command_of(before);
     let after = command_of(after);
     if before == after {
         return Ok(());
     }
+    push_command(supply, unit, before, after, facts)
+}
+
+#[inline(never)]
+fn push_command<S: Supply>(
+    supply: &mut S,
+    unit: usize,
+    before: Option<CommandAtHand>,
+    after: Option<CommandAtHand>,
+    facts: &mut StepFacts,
+) -> Result<(), AllocError>
+    ensures kept { facts.new ≡ facts.old }
+    ensures unrefused { OnOk result (S.refused supply.new ≡ S.refused supply.old) }
+    ensures memory { OnErr result (S.refused supply.new ≡ true) }
+{
     facts.push(
         supply,
         Fact::Command {
@@ -126,7 +160,9 @@ fn add_attention<S: Supply>(
     step: &Step<'_>,
     facts: &mut StepFacts,
 ) -> Result<(), AllocError>
-    ensures { facts.new ≡ facts.old }
+    ensures kept { facts.new ≡ facts.old }
+    ensures unrefused { OnOk result (S.refused supply.new ≡ S.refused supply.old) }
+    ensures memory { OnErr result (S.refused supply.new ≡ true) }
 {
     let (
         Reply::Down {
@@ -140,15 +176,23 @@ fn add_attention<S: Supply>(
         return Ok(());
     };
     match step.parties.subchannels.as_slice().get(subchannel) {
-        Some(setup) => facts.push(
-            supply,
-            Fact::AttentionTaken {
-                unit: usize::from(setup.unit),
-                attention: *attention,
-            },
-        ),
+        Some(setup) => push_attention(supply, usize::from(setup.unit), *attention, facts),
         None => Ok(()),
     }
+}
+
+#[inline(never)]
+fn push_attention<S: Supply>(
+    supply: &mut S,
+    unit: usize,
+    attention: u64,
+    facts: &mut StepFacts,
+) -> Result<(), AllocError>
+    ensures kept { facts.new ≡ facts.old }
+    ensures unrefused { OnOk result (S.refused supply.new ≡ S.refused supply.old) }
+    ensures memory { OnErr result (S.refused supply.new ≡ true) }
+{
+    facts.push(supply, Fact::AttentionTaken { unit, attention })
 }
 
 /// The bytes of a write that a device absorbed: so many of those that it had.
@@ -191,18 +235,49 @@ pub(crate) fn add_first_acts<S: Supply>(
     step: &Step<'_>,
     facts: &mut StepFacts,
 ) -> Result<(), AllocError>
-    ensures { facts.new ≡ facts.old }
+    ensures kept { facts.new ≡ facts.old }
+    ensures unrefused { OnOk result (S.refused supply.new ≡ S.refused supply.old) }
+    ensures memory { OnErr result (S.refused supply.new ≡ true) }
 {
-    let (unit, act) = match step.event() {
-        Event::Report { unit, report } => (
-            *unit as usize,
-            first_act(step, *unit as usize, &report.answer),
-        ),
-        Event::Restart { unit } => (*unit as usize, Some(DeviceAct::Restarted)),
-        _ => return Ok(()),
-    };
-    match act {
-        Some(act) => facts.push(supply, Fact::Device { unit, act }),
+    match step.event() {
+        Event::Report { unit, report } => {
+            add_first_act(supply, step, *unit as usize, &report.answer, facts)
+        }
+        Event::Restart { unit } => { push_act(supply, *unit as usize, DeviceAct::Restarted, facts) }
+        _ => Ok(()),
+    }
+}
+
+/// A device did this.
+#[inline(never)]
+fn push_act<S: Supply>(
+    supply: &mut S,
+    unit: usize,
+    act: DeviceAct,
+    facts: &mut StepFacts,
+) -> Result<(), AllocError>
+    ensures kept { facts.new ≡ facts.old }
+    ensures unrefused { OnOk result (S.refused supply.new ≡ S.refused supply.old) }
+    ensures memory { OnErr result (S.refused supply.new ≡ true) }
+{
+    facts.push(supply, Fact::Device { unit, act })
+}
+
+/// What a device answered before its unit sent a signal.
+#[inline(never)]
+fn add_first_act<S: Supply>(
+    supply: &mut S,
+    step: &Step<'_>,
+    unit: usize,
+    answer: &DeviceAnswer,
+    facts: &mut StepFacts,
+) -> Result<(), AllocError>
+    ensures kept { facts.new ≡ facts.old }
+    ensures unrefused { OnOk result (S.refused supply.new ≡ S.refused supply.old) }
+    ensures memory { OnErr result (S.refused supply.new ≡ true) }
+{
+    match first_act(step, unit, answer) {
+        Some(act) => push_act(supply, unit, act, facts),
         None => Ok(()),
     }
 }
@@ -224,29 +299,43 @@ pub(crate) fn add_last_acts<S: Supply>(
     step: &Step<'_>,
     facts: &mut StepFacts,
 ) -> Result<(), AllocError>
-    ensures { facts.new ≡ facts.old }
+    ensures kept { facts.new ≡ facts.old }
+    ensures unrefused { OnOk result (S.refused supply.new ≡ S.refused supply.old) }
+    ensures memory { OnErr result (S.refused supply.new ≡ true) }
 {
-    let Event::Report { unit, report } = step.event() else {
-        return Ok(());
-    };
-    let unit = *unit as usize;
-    match &report.answer {
-        DeviceAnswer::Begins if asks(step, unit) => facts.push(
+    match step.event() {
+        Event::Report { unit, report } => {
+            add_last_act(supply, step, *unit as usize, &report.answer, facts)
+        }
+        _ => Ok(()),
+    }
+}
+
+/// What a device answered as its unit sent a signal.
+#[inline(never)]
+fn add_last_act<S: Supply>(
+    supply: &mut S,
+    step: &Step<'_>,
+    unit: usize,
+    answer: &DeviceAnswer,
+    facts: &mut StepFacts,
+) -> Result<(), AllocError>
+    ensures kept { facts.new ≡ facts.old }
+    ensures unrefused { OnOk result (S.refused supply.new ≡ S.refused supply.old) }
+    ensures memory { OnErr result (S.refused supply.new ≡ true) }
+{
+    match answer {
+        DeviceAnswer::Begins if asks(step, unit) => {
+            push_act(supply, unit, DeviceAct::Asks, facts)
+        }
+        DeviceAnswer::Ended { status, more } => push_act(
             supply,
-            Fact::Device {
-                unit,
-                act: DeviceAct::Asks,
+            unit,
+            DeviceAct::Ended {
+                status: *status,
+                more: *more,
             },
-        ),
-        DeviceAnswer::Ended { status, more } => facts.push(
-            supply,
-            Fact::Device {
-                unit,
-                act: DeviceAct::Ended {
-                    status: *status,
-                    more: *more,
-                },
-            },
+            facts,
         ),
         _ => Ok(()),
     }

@@ -7,7 +7,7 @@ loop-index-init g c = record { traced = traced_none _ _ _ c.requires.none; parti
 
 pub loop-index-preserved : goal.loop-index-preserved
 loop-index-preserved g c =
-    let stepped = c.in_ok-step.ensures c.loop-index.invariant.seen in
+    let stepped = c.in_ok-step.ensures.stepped c.loop-index.invariant.seen in
     record {
       traced = traced_to _ _ _ _ c.args.lines.now c.loop-index.index _ _ _ c.in-Some.ensures.line c.loop-index.invariant.parties
           c.loop-index.invariant.traced stepped;

@@ -1,6 +1,6 @@
 use Rattle.std.proofs.Common.{◌≡◌, map, take}
 use Rattle.machine_sight.specs.Shown.{is_up}
-use Rattle.machine_sight.proofs.looking.add_paths.Given as goal
+use Rattle.machine_sight.proofs.looking.show_paths.Given as goal
 
 -- the channel paths so far
 abbrev pub invariant-loop-chpid : goal.invariant-loop-chpid

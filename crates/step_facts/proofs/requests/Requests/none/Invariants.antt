@@ -1,0 +1,5 @@
+use Rattle.std.proofs.Common.{◌≡◌}
+use Rattle.step_facts.proofs.requests.Requests.none.Given as goal
+
+abbrev pub invariant-loop-subchannel : goal.invariant-loop-subchannel
+invariant-loop-subchannel g l = g.S.Supply.refused l.supply ≡ g.S.Supply.refused l.fn.supply
