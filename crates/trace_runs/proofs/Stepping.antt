@@ -20,18 +20,21 @@ use Rattle.machine_sight.specs.Waiting.{WaitingQueues, waits_on}
 use Rattle.machine_sight.specs.declared.balance.Course.{Course}
 use Rattle.machine_sight.specs.declared.balance.Course.TheVariants.{Onto, Off}
 use Rattle.machine_sight.specs.declared.sight.Sight.{Sight}
+use Rattle.scsw_irb.specs.declared.serials.Serials.{Serials}
 use Rattle.script_rows.specs.declared.Action.{Action}
 use Rattle.script_rows.specs.declared.Action.TheVariants as action
 use Rattle.script_runner.specs.Acting.{ActionOutcome, Enters, Follows, Installed, PerformsAction, device_turn_of}
 use Rattle.script_text.specs.Text.{told_of as outcome_told}
 use Rattle.script_text.specs.declared.ActionResult.TheVariants as outcome
-use Rattle.step_facts.specs.Told.{AnsweredLine, answers_of, facts_where, is_hold, is_move}
+use Rattle.step_facts.specs.Told.{AnsweredLine, answers_of, facts_where, is_hold, is_move, line_record}
 use Rattle.step_records.specs.declared.parties.Parties.{Parties}
 use Rattle.step_records.specs.declared.record.Fact.{Fact}
+use Rattle.step_records.specs.declared.record.Fact.TheVariants as fact_spec
 use Rattle.step_records.specs.declared.record.Record.{Record}
 use Rattle.step_records.specs.declared.record.Signal.{Signal}
 use Rattle.step_records.specs.declared.record.Wire.{Wire}
-use Rattle.trace_runs.specs.Tracing.{AreHeldBy, HasStepped, HasTold, IsLast, IsMovedBy, IsSeen, Traced, answer_record, answered_line, beginning, first_facts, found_where, instructed}
+use Rattle.step_records.specs.declared.refusal.Refusal.{Refusal}
+use Rattle.trace_runs.specs.Tracing.{AreHeldBy, HasReason, HasStepped, HasTold, IsLast, IsMovedBy, IsReason, IsSeen, Traced, answer_record, answered_line, beginning, first_facts, found_where, instructed}
 
 -- a refusal, or a look
 abbrev pub is_quiet : ActionOutcome → Bool
@@ -139,9 +142,6 @@ balanced-first waited waits line sight sub outcome rest b = λ on.
     ∙ (b on
     ∙ sym (ap (λ (t : List Signal). t ++ waits_on waits on) (signals-first Off on line sight sub outcome rest)))
 
-balanced-none : (waiting : List WaitingQueues) → IsBalanced waiting [] waiting
-balanced-none waiting = λ on. append-nil (waits_on waiting on)
-
 -- the facts of a line are told piece by piece
 told-behind : (before middle after : List Record) (line : ℕ) (found : Option Fact) (outcome : ActionOutcome) (rest : List Record) →
     middle ≡ before ++ beginning line found → after ≡ (middle ++ answer_record line outcome ∷ []) ++ rest →
@@ -153,19 +153,39 @@ told-behind before middle after line found outcome rest first then =
     ∙ (ap (λ (t : List Record). t ++ rest) (append_assoc before (beginning line found) answer)
     ∙ append_assoc before (first_facts line found outcome) rest))
 
--- an action of which only what it found and came to is told
-quiet_step : (old new : Traced) (line : ℕ) (action : Action) (outcome : ActionOutcome) (before middle after : List Record) →
+-- what answers nothing and moves no signal
+record IsAside (rest : List Record) : Type 0 where
+  unanswered : answers_of rest ≡ []
+  unmoved : (course : Course) (on : Wire) → signals_on course on rest ≡ []
+
+balanced-aside : (waiting : List WaitingQueues) (rest : List Record) → IsAside rest → IsBalanced waiting rest waiting
+balanced-aside waiting rest aside = λ on.
+    ap (λ (t : List Signal). waits_on waiting on ++ t) (aside.unmoved Onto on)
+    ∙ (append-nil (waits_on waiting on)
+    ∙ sym (ap (λ (t : List Signal). t ++ waits_on waiting on) (aside.unmoved Off on)))
+
+none-aside : IsAside []
+none-aside = record { unanswered = refl; unmoved = λ course on. refl }
+
+one-aside : (line : ℕ) (refusal : Refusal) → IsAside (line_record line (fact_spec.Refused refusal) ∷ [])
+one-aside line refusal = record { unanswered = refl; unmoved = λ course on. refl }
+
+reason-aside : (parties : Parties) (machine : Installed) (line : ℕ) (f : Fault) (rest : List Record) → IsReason parties machine line f rest → IsAside rest
+reason-aside parties machine line f rest r = subst IsAside (sym r.are) (one-aside line r.refusal)
+
+-- an action that changes nothing that is seen
+quiet_step : (old new : Traced) (line : ℕ) (action : Action) (outcome : ActionOutcome) (before middle after rest : List Record) →
     PerformsAction old.machine action outcome new.machine → is_quiet outcome ≡ true → new.parties ≡ old.parties → new.sight ≡ old.sight →
     new.waiting ≡ old.waiting → middle ≡ before ++ beginning line (found_where old.sight (instructed old.parties action)) →
-    after ≡ middle ++ answer_record line outcome ∷ [] → IsSeen old → HasStepped old line action before after new
-quiet_step old new line action outcome before middle after acts quiet stay same still first then seen =
+    after ≡ (middle ++ answer_record line outcome ∷ []) ++ rest → IsAside rest →
+    ((f : Fault) → outcome ≡ Err f → IsReason old.parties new.machine line f rest) → IsSeen old → HasStepped old line action before after new
+quiet_step old new line action outcome before middle after rest acts quiet stay same still first then aside reason seen =
     let past = quiet_past old.machine new.machine action outcome quiet acts in
     let named = instructed old.parties action in
     let found = found_where old.sight named in
-    let facts : List Record = first_facts line found outcome ++ [] in
     record {
-      facts = facts;
-      added = told-behind before middle after line found outcome [] first (then ∙ sym (append-nil (middle ++ answer_record line outcome ∷ [])));
+      facts = first_facts line found outcome ++ rest;
+      added = told-behind before middle after line found outcome rest first then;
       told = record {
         outcome = outcome;
         acts = acts;
@@ -173,14 +193,15 @@ quiet_step old new line action outcome before middle after acts quiet stay same 
         after = old.sight;
         shown_before = seen.shown;
         shown_after = subst (λ s. Shows s old.parties old.sight) (sym past.0) seen.shown;
-        rest = [];
+        rest = rest;
         begins = refl;
-        answers = answers-first line old.sight named outcome [];
+        reason = reason;
+        answers = answers-first line old.sight named outcome rest ∙ ap (λ (t : List AnsweredLine). answered_line line outcome ∷ t) aside.unanswered;
         waited = old.waiting;
         waits = old.waiting;
         told_before = seen.told;
         told_after = subst (λ s. TellsWaiting s old.parties.subchannels.items old.waiting) (sym past.0) seen.told;
-        balanced = balanced-first old.waiting old.waiting line old.sight named outcome [] (balanced-none old.waiting);
+        balanced = balanced-first old.waiting old.waiting line old.sight named outcome rest (balanced-aside old.waiting rest aside);
         moves = λ entry grown. absurd (not_longer old.machine.past.history new.machine.past.history entry past.1 grown);
         holds = λ entry grown. absurd (not_longer old.machine.past.history new.machine.past.history entry past.1 grown);
       };
@@ -188,15 +209,41 @@ quiet_step old new line action outcome before middle after acts quiet stay same 
       seen = seen_same old new past.0 stay same still seen;
     }
 
-pub stepped_quiet : (old new : Traced) (m : Installed) (line : ℕ) (action : Action) (came outcome : ActionOutcome) (named : Option ℕ) (before middle after : List Record) →
+stepped_aside : (old new : Traced) (m : Installed) (line : ℕ) (action : Action) (came outcome : ActionOutcome) (named : Option ℕ) (before middle after rest : List Record) →
     PerformsAction old.machine action came m → came ≡ outcome → is_quiet outcome ≡ true → new ≡ record old { machine = m } →
     named ≡ instructed old.parties action → middle ≡ before ++ beginning line (found_where old.sight named) →
-    after ≡ middle ++ answer_record line outcome ∷ [] → IsSeen old → HasStepped old line action before after new
-stepped_quiet old new m line action came outcome named before middle after acts is quiet kept names first then seen =
+    after ≡ (middle ++ answer_record line outcome ∷ []) ++ rest → IsAside rest →
+    ((f : Fault) → outcome ≡ Err f → IsReason old.parties m line f rest) → IsSeen old → HasStepped old line action before after new
+stepped_aside old new m line action came outcome named before middle after rest acts is quiet kept names first then aside reason seen =
     subst (λ (t : Traced). HasStepped old line action before after t) (sym kept)
-    (quiet_step old (record old { machine = m }) line action outcome before middle after
+    (quiet_step old (record old { machine = m }) line action outcome before middle after rest
     (subst (λ (o : ActionOutcome). PerformsAction old.machine action o m) is acts) quiet refl refl refl
-    (first ∙ ap (λ (n : Option ℕ). before ++ beginning line (found_where old.sight n)) names) then seen)
+    (first ∙ ap (λ (n : Option ℕ). before ++ beginning line (found_where old.sight n)) names) then aside reason seen)
+
+-- a look, of which what it found and came to is told
+pub stepped_quiet : (old new : Traced) (m : Installed) (line : ℕ) (action : Action) (came : ActionOutcome) (found : Serials) (named : Option ℕ) (before middle after : List Record) →
+    PerformsAction old.machine action came m → came ≡ Ok (outcome.Serials found) → new ≡ record old { machine = m } →
+    named ≡ instructed old.parties action → middle ≡ before ++ beginning line (found_where old.sight named) →
+    after ≡ middle ++ answer_record line (Ok (outcome.Serials found)) ∷ [] → IsSeen old → HasStepped old line action before after new
+stepped_quiet old new m line action came found named before middle after acts is kept names first then seen =
+    let looked : ActionOutcome = Ok (outcome.Serials found) in
+    stepped_aside old new m line action came looked named before middle after [] acts is refl kept names first
+    (then ∙ sym (append-nil (middle ++ answer_record line looked ∷ []))) none-aside (λ f e. absurd (cc e)) seen
+
+-- the fault of a refusal is one
+same-fault : (one other : Fault) → Err one ≡ Err other → one ≡ other
+same-fault one other e = cc e
+
+-- a refusal, behind which stands why
+pub stepped_refused : (old new : Traced) (m : Installed) (line : ℕ) (action : Action) (came : ActionOutcome) (refused : Fault) (named : Option ℕ) (before middle answered after : List Record) →
+    PerformsAction old.machine action came m → came ≡ Err refused → new ≡ record old { machine = m } →
+    named ≡ instructed old.parties action → middle ≡ before ++ beginning line (found_where old.sight named) →
+    answered ≡ middle ++ answer_record line (Err refused) ∷ [] → HasReason old.parties m line refused answered after →
+    IsSeen old → HasStepped old line action before after new
+stepped_refused old new m line action came refused named before middle answered after acts is kept names first then why seen =
+    stepped_aside old new m line action came (Err refused) named before middle after why.rest acts is refl kept names first
+    (why.added ∙ ap (λ (t : List Record). t ++ why.rest) then) (reason-aside old.parties m line refused why.rest why.reason)
+    (λ f e. subst (λ (x : Fault). IsReason old.parties m line x why.rest) (same-fault refused f e) why.reason) seen
 
 -- an event of which the facts are told behind what it came to
 pub stepped_told : (old middle new : Traced) (m : Installed) (line : ℕ) (action : Action) (came : ActionOutcome) (named : Option ℕ) (before between after : List Record) →
@@ -222,6 +269,7 @@ stepped_told old middle new m line action came named before between after acts i
         shown_after = subst (λ (p : Parties). Shows new.machine.past.state p new.sight) k.parties_stay k.seen.shown;
         rest = k.facts;
         begins = refl;
+        reason = λ f e. absurd (cc e);
         answers = answers-first line old.sight asked came_to k.facts ∙ ap (λ (t : List AnsweredLine). answered_line line came_to ∷ t) k.none_answered;
         waited = old.waiting;
         waits = new.waiting;

@@ -1,9 +1,10 @@
 -- What the records of a script tell of its lines.
-use Rattle.std.specs.Prelude.{◌≡◌, ◌-◌, ℕ, true, false, List, [], ◌∷◌, ◌++◌, length, map, slice_get, Ok, Option, None, Some}
+use Rattle.std.specs.Prelude.{◌≡◌, ◌-◌, ℕ, true, false, List, [], ◌∷◌, ◌++◌, length, map, slice_get, Ok, Err, Option, None, Some}
 use Rattle.std.specs.List.{flat_map}
 use Rattle.chan_events.specs.Instructions.{subchannel_word}
 use Rattle.chan_events.specs.declared.event.Event.TheVariants as event
 use Rattle.chan_events.specs.declared.reply.Entry.{Entry}
+use Rattle.chan_model.specs.declared.fault.Fault.{Fault}
 use Rattle.channel_config.specs.Setup.{Setup}
 use Rattle.machine_sight.specs.Balance.{IsBalanced}
 use Rattle.event_log.specs.Logs.{last_reply}
@@ -11,6 +12,7 @@ use Rattle.machine_sight.specs.Finding.{found_of}
 use Rattle.machine_sight.specs.Shown.{Shows, TellsWaiting}
 use Rattle.machine_sight.specs.Waiting.{WaitingQueues}
 use Rattle.machine_sight.specs.declared.sight.Sight.{Sight}
+use Rattle.refusal_reasons.specs.Standing.{IsSo}
 use Rattle.script.specs.Pieces.{lines_of}
 use Rattle.script.specs.Scripts.{IsScript, ScriptContents}
 use Rattle.script.specs.declared.Line.{Line}
@@ -23,11 +25,13 @@ use Rattle.script_text.specs.declared.ActionResult.TheVariants as came
 use Rattle.step_facts.specs.Holds.{all_hold_changes}
 use Rattle.step_facts.specs.Moves.{is_told_by_reply, met_of, sent_of}
 use Rattle.step_records.specs.Named.{index_of, named_by}
+use Rattle.step_records.specs.Refusing.{fault_of}
 use Rattle.step_facts.specs.Told.{AnsweredLine, answers_of, facts_where, is_hold, is_move, line_record}
 use Rattle.step_records.specs.declared.parties.Parties.{Parties}
 use Rattle.step_records.specs.declared.record.Fact.{Fact}
 use Rattle.step_records.specs.declared.record.Fact.TheVariants as fact
 use Rattle.step_records.specs.declared.record.Record.{Record}
+use Rattle.step_records.specs.declared.refusal.Refusal.{Refusal}
 
 -- a machine, who there is, what a look showed of it last, and what waits on its wires as it is told
 pub record Traced : Type 0 where
@@ -100,10 +104,23 @@ pub record HasTold (old : Traced) (line : ℕ) (before after : List Record) (new
   pub parties_stay : new.parties ≡ old.parties
   pub seen : IsSeen new
 
+-- why a line was refused: by a reason of this fault, which says of the wires of the machine what is so
+pub record IsReason (parties : Parties) (machine : Installed) (line : ℕ) (refused : Fault) (records : List Record) : Type 0 where
+  pub refusal : Refusal
+  pub are : records ≡ line_record line (fact.Refused refusal) ∷ []
+  pub of_fault : fault_of refusal ≡ refused
+  pub so : IsSo machine.past.state parties.subchannels.items refusal
+
+-- why a line was refused is told behind what it came to
+pub record HasReason (parties : Parties) (machine : Installed) (line : ℕ) (refused : Fault) (before after : List Record) : Type 0 where
+  pub rest : List Record
+  pub added : after ≡ before ++ rest
+  pub reason : IsReason parties machine line refused rest
+
 -- the facts of a line: first the line, what its instruction found of the subchannel that it names, and what its action came to, as
 -- `chsim run` performs it; then what differs between two looks, of which one shows the machine before it and the other after it. They
 -- account for all that waits on the wires, at the machine before it and after it; where an event was accepted, they tell the signals that
--- its reply says were met and sent, and the holds that changed.
+-- its reply says were met and sent, and the holds that changed; where the line was refused, they tell why.
 pub record IsToldOf (parties : Parties) (old : Installed) (number : ℕ) (action : Action) (facts : List Record) (new : Installed) : Type 0 where
   pub outcome : ActionOutcome
   pub acts : PerformsAction old action outcome new
@@ -113,6 +130,7 @@ pub record IsToldOf (parties : Parties) (old : Installed) (number : ℕ) (action
   pub shown_after : Shows new.past.state parties after
   pub rest : List Record
   pub begins : facts ≡ first_facts number (found_where before (instructed parties action)) outcome ++ rest
+  pub reason : (refused : Fault) → outcome ≡ Err refused → IsReason parties new number refused rest
   pub answers : answers_of facts ≡ answered_line number outcome ∷ []
   pub waited : List WaitingQueues
   pub waits : List WaitingQueues

@@ -15,7 +15,7 @@ ghost use Rattle.step_facts.specs.Told.{answers_of, line_record};
 ghost use Rattle.step_records.specs.declared.record.Fact.TheVariants as fact_spec;
 ghost use Rattle.trace_runs.specs.Faults.{IsFaultAt, fault_told};
 ghost use Rattle.trace_runs.specs.Tracing as spec;
-ghost use Rattle.trace_runs.specs.Tracing.{AreHeldBy, AreOf, HasStepped, HasTold, IsLast, IsMovedBy, IsSeen};
+ghost use Rattle.trace_runs.specs.Tracing.{AreHeldBy, AreOf, HasReason, HasStepped, HasTold, IsLast, IsMovedBy, IsSeen};
 ghost use Rattle.trace_runs.specs.declared.tracer.Stepped.TheVariants as stepped_spec;
 
 use crate::TraceFault;
