@@ -125,7 +125,7 @@ fn push_copy<S: Supply>(
     copied: (u32, &[u8]),
     facts: &mut StepFacts,
 ) -> Result<(), AllocError>
-    requires { length copied.entry.1.now ≤ 256 }
+    requires { length copied.1.now ≤ 256 }
     ensures kept { facts.new ≡ facts.old }
     ensures unrefused { OnOk result (S.refused supply.new ≡ S.refused supply.old) }
     ensures memory { OnErr result (S.refused supply.new ≡ true) }
