@@ -314,8 +314,8 @@ impl<J: MachineBrand> Tracer<J> {
                 Ok(Stepped::Looked)
             }
             Err(fault) => {
-                let facts = self.with_reason(supply, facts, action, fault)?;
-                self.add(supply, facts, records)?;
+                let refused = self.with_reason(supply, facts, action, fault)?;
+                self.add(supply, refused, records)?;
                 Ok(Stepped::Refused(fault))
             }
         }
