@@ -14,10 +14,10 @@ returns-in_ok-add-in-Ok-Looked g c =
 
 pub returns-in_ok-add-in-Err : goal.returns-in_ok-add-in-Err
 returns-in_ok-add-in-Err g c =
-    stepped_quiet _ _ c.act-acted.new.self _ _ c.outcome_of-outcome.result _ _ c.in_ok-facts.facts
+    stepped_quiet _ _ c.act-acted.new.self _ _ c.outcome_of-outcome.result _ _ c.in_ok-refused.refused
     (subst (λ (t : Traced). PerformsAction t.machine (action_in c.args.action.now c.args.bytes.now) c.outcome_of-outcome.result c.act-acted.new.self) c.self.view_is
     (subst (λ (r : ActionOutcome). PerformsAction c.self.inside.machine (action_in c.args.action.now c.args.bytes.now) r c.act-acted.new.self)
-    (sym c.outcome_of-outcome.ensures) c.act-acted.ensures.performs)) (search rules) (c.in_ok-add-in-Err.ensures.kept ∙ (c.take_list.ensures.kept ∙ ap (λ (t : Traced). record t { machine = c.act-acted.new.self }) c.self.view_is)) c.in_ok-facts.ensures c.in_ok-add-in-Err.ensures.added
+    (sym c.outcome_of-outcome.ensures) c.act-acted.ensures.performs)) (search rules) (c.in_ok-add-in-Err.ensures.kept ∙ (c.take_list.ensures.kept ∙ ap (λ (t : Traced). record t { machine = c.act-acted.new.self }) c.self.view_is)) (c.in_ok-refused.ensures.told ∙ c.in_ok-facts.ensures) c.in_ok-add-in-Err.ensures.added
 
 pub returns-in_ok-tell-in-Ok-Replied : goal.returns-in_ok-tell-in-Ok-Replied
 returns-in_ok-tell-in-Ok-Replied g c =
