@@ -231,8 +231,12 @@ stepped_quiet old new m line action came found named before middle after acts is
     (then ∙ sym (append-nil (middle ++ answer_record line looked ∷ []))) none-aside (λ f e. absurd (cc e)) seen
 
 -- the fault of a refusal is one
-same-fault : (one other : Fault) → Err one ≡ Err other → one ≡ other
-same-fault one other e = cc e
+abbrev fault-of : Fault → ActionOutcome → Fault
+fault-of default (Err f) = f
+fault-of default other = default
+
+same-fault : (one other : Fault) (came : ActionOutcome) → came ≡ Err one → came ≡ Err other → one ≡ other
+same-fault one other came e f = ap (fault-of one) (sym e ∙ f)
 
 -- a refusal, behind which stands why
 pub stepped_refused : (old new : Traced) (m : Installed) (line : ℕ) (action : Action) (came : ActionOutcome) (refused : Fault) (named : Option ℕ) (before middle answered after : List Record) →
@@ -243,7 +247,7 @@ pub stepped_refused : (old new : Traced) (m : Installed) (line : ℕ) (action : 
 stepped_refused old new m line action came refused named before middle answered after acts is kept names first then why seen =
     stepped_aside old new m line action came (Err refused) named before middle after why.rest acts is refl kept names first
     (why.added ∙ ap (λ (t : List Record). t ++ why.rest) then) (reason-aside old.parties m line refused why.rest why.reason)
-    (λ f e. subst (λ (x : Fault). IsReason old.parties m line x why.rest) (same-fault refused f e) why.reason) seen
+    (λ f e. subst (λ (x : Fault). IsReason old.parties m line x why.rest) (same-fault refused f (Err refused) refl e) why.reason) seen
 
 -- an event of which the facts are told behind what it came to
 pub stepped_told : (old middle new : Traced) (m : Installed) (line : ℕ) (action : Action) (came : ActionOutcome) (named : Option ℕ) (before between after : List Record) →
@@ -334,3 +338,7 @@ has_told old followed new line before between after list next entry last answere
 -- the same where the machine is shown as a value
 pub at_value : (value old new : Traced) (line : ℕ) (before after : List Record) → value ≡ old → HasTold value line before after new → HasTold old line before after new
 at_value value old new line before after is h = subst (λ (t : Traced). HasTold t line before after new) is h
+
+pub from_value : (value old new : Traced) (line : ℕ) (action : Action) (before after : List Record) → value ≡ old →
+    (IsSeen value → HasStepped value line action before after new) → IsSeen old → HasStepped old line action before after new
+from_value value old new line action before after is h = subst (λ (t : Traced). IsSeen t → HasStepped t line action before after new) is h
