@@ -1,7 +1,1 @@
-pub mod Blanks
-pub mod Digits
-pub mod Lengths
-pub mod Rows
-pub mod Speaking
 pub mod Telling
-pub mod Wholes

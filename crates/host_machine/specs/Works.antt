@@ -4,7 +4,6 @@ use Rattle.std.specs.Option.{option_or}
 use Rattle.chan_model.specs.declared.fault.Fault.TheVariants as fault
 use Rattle.chan_model.specs.Reports.{Call, DeviceAnswer, Work}
 use Rattle.chan_model.specs.declared.names.Side.{Side}
-use Rattle.chan_model.specs.declared.names.Side.TheVariants.{First, Second}
 use Rattle.chan_model.specs.declared.report.Call.TheVariants as call
 use Rattle.chan_model.specs.declared.report.DeviceAnswer.TheVariants as answer
 use Rattle.chan_model.specs.declared.report.Work.TheVariants as work
@@ -16,6 +15,7 @@ use Rattle.machine_model.specs.declared.state.UnitTurn.TheVariants as unit_turn
 use Rattle.signal_step.specs.PathTurns.{path_turn_of}
 use Rattle.subchannel_model.specs.declared.state.Subchannel.{Subchannel}
 use Rattle.unit_driver.specs.Turns.{word_of}
+use Rattle.event_lines.specs.Sides.{side_number, side_numbered}
 use Rattle.host_machine.specs.Answers.{below, fault_size}
 use Rattle.host_machine.specs.Given.{written}
 use Rattle.host_machine.specs.Hosts.{Enters, Stays, WhereItRuns}
@@ -25,15 +25,6 @@ use Rattle.host_machine.specs.declared.turns.Due.{Due}
 use Rattle.host_machine.specs.declared.turns.Due.TheVariants as due
 use Rattle.host_machine.specs.declared.works.HostAnswer.{HostAnswer}
 use Rattle.host_machine.specs.declared.works.HostWork.{HostWork}
-
--- Numbers of what has names
-
-abbrev pub side_number : Side → ℕ
-side_number First = 0
-side_number Second = 1
-
-abbrev pub side_numbered : ℕ → Option Side
-side_numbered number = if number == 0 then Some First else (if number == 1 then Some Second else None)
 
 -- The call of a device, in numbers: kind 0 none, 1 the initial status of a command, 2 to absorb bytes, 3 to supply bytes, 4 the final
 -- status
