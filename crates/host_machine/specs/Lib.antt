@@ -1,4 +1,5 @@
 pub mod Answers
+pub mod Dues
 pub mod Given
 pub mod Histories
 pub mod Hosts
