@@ -83,12 +83,16 @@ static void set_up(void)
 
 /* ---- Turns by calls -------------------------------------------------------------------------------------------------------------- */
 
+/* The device is called, where that is due, and its answer handed in; what was due is answered. */
 static int32_t serve(void)
 {
     fm_call call;
     uint8_t bytes[256];
     fm_answer answer = { FM_ENDED, 0, 0, 0 };
-    must("fm_work", fm_work(&machine, UNIT, &call, bytes, sizeof bytes) == FM_CALL_DUE);
+    int32_t due = fm_work(&machine, UNIT, &call, bytes, sizeof bytes);
+    if (due != FM_CALL_DUE) {
+        return due;
+    }
     switch (call.kind) {
     case FM_CALL_INITIAL:
         answer.status = initial(NULL, call.code, call.from_side, call.from_path);
@@ -102,22 +106,22 @@ static int32_t serve(void)
         answer.status = FM_CHANNEL_END | FM_DEVICE_END;
         break;
     }
-    return fm_report(&machine, FM_LENT(&storage), UNIT, &call, &answer, NULL, 0);
+    must("fm_report", fm_report(&machine, FM_LENT(&storage), UNIT, &call, &answer, NULL, 0) == 0);
+    return due;
 }
 
-/* The unit is turned until it has nothing to do, then the subchannel: what one of them sent, the other takes. */
+/* The unit is turned until it has nothing to do, then the subchannel: what one of them sent, the other takes. Behind a signal that the
+ * unit took fm_work is asked, and not another turn. */
 static void turn_by_calls(void)
 {
     bool moved;
     do {
-        int32_t by_unit;
+        bool again = true;
         moved = fm_turn_subchannel(&machine, FM_LENT(&storage), WORD) == FM_TURNED;
-        while ((by_unit = fm_turn_unit(&machine, FM_LENT(&storage), UNIT)) != FM_NOTHING_DUE) {
+        while (again && fm_turn_unit(&machine, FM_LENT(&storage), UNIT) != FM_NOTHING_DUE) {
+            int32_t due = serve();
             moved = true;
-            if (by_unit == FM_DEVICE_CALLED) {
-                must("fm_report", serve() == 0);
-                break;
-            }
+            again = due == FM_SIGNAL_DUE || due == FM_REPORT_DUE;
         }
     } while (moved);
 }

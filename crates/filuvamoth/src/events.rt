@@ -4,15 +4,15 @@ ghost use Rattle.chan_events.specs.declared.event.Event.TheVariants as event_spe
 ghost use Rattle.chan_events.specs.declared.event.UnitAct.TheVariants as act_spec;
 ghost use Rattle.filuvamoth.specs.Calls.{ExecutesAt, HandsIn, PerformsAt};
 ghost use Rattle.filuvamoth.specs.Events as spec;
-ghost use Rattle.host_machine.specs.Works.{side_numbered};
+ghost use Rattle.event_lines.specs.Sides.{side_numbered};
 
 use crate::calls::perform;
 use crate::handle::Handle;
 use chan_events::event::{Event, UnitAct};
 use chan_model::chunk::Chunk;
 use chan_model::names::Cpu;
+use event_lines::side_numbers::side_numbered;
 use host_machine::answers::BAD_ARGUMENT;
-use host_machine::works::side_numbered;
 use std::alloc::Global;
 use storage_keys::key::Key;
 

@@ -1,7 +1,2 @@
-pub mod Blanks
-pub mod Digits
-pub mod Lengths
-pub mod Rows
-pub mod Speaking
 pub mod Telling
-pub mod Wholes
+pub mod Turning

@@ -2,10 +2,10 @@
 use Rattle.std.specs.Prelude.{◌≡◌, ℕ, ℤ, pos, ◌≤◌, List, [], Option, Some, None}
 use Rattle.chan_events.specs.declared.reply.Entry.{Entry}
 use Rattle.channel_subsystem.specs.Hosting.{Leads}
+use Rattle.event_lines.specs.EventLines.{event_text}
 use Rattle.script_text.specs.Text.{reply_text}
 use Rattle.storage_keys.specs.Storage.{Contents}
 use Rattle.host_machine.specs.Answers.{bad_argument, below}
-use Rattle.host_machine.specs.EventLines.{event_text}
 use Rattle.host_machine.specs.Hosts.{WhereItRuns}
 use Rattle.host_machine.specs.Lines.{Tells}
 use Rattle.host_machine.specs.Machines.{Running}

@@ -1,13 +1,11 @@
 pub mod Answers
-pub mod EventLines
+pub mod Dues
 pub mod Given
 pub mod Histories
 pub mod Hosts
 pub mod Lines
 pub mod Looks
 pub mod Machines
-pub mod ReportLines
 pub mod SettingLines
 pub mod Settings
-pub mod Speakable
 pub mod Works

@@ -1,14 +1,10 @@
 -- A line of a script, for a host: the event that it asks for, and what is printed of its answer (own).
-use Rattle.std.specs.Prelude.{◌≡◌, ◌⊎◌, ℕ, ℤ, List, [], ◌∷◌, codes, length, take, Option, Some, None, Result, Ok, Err, if◌then◌else◌}
-use Rattle.std.specs.Str.{bytes_eq}
+use Rattle.std.specs.Prelude.{◌≡◌, ◌⊎◌, ℕ, ℤ, List, codes, length, take, Result, Ok, Err}
 use Rattle.chan_events.specs.Events.{Event}
 use Rattle.chan_events.specs.Replies.{Reply}
 use Rattle.channel_subsystem.specs.declared.host_fault.HostFault.{HostFault}
 use Rattle.channel_subsystem.specs.declared.host_fault.HostFault.TheVariants as host_fault
-use Rattle.script.specs.Pieces.{lines_of, words_between_blanks}
-use Rattle.script_rows.specs.Actions.{action_row}
-use Rattle.script_rows.specs.declared.Action.{Action}
-use Rattle.script_rows.specs.declared.Action.TheVariants as action
+use Rattle.event_lines.specs.ReadLines.{event_of_words, words_of}
 use Rattle.script_rows.specs.declared.words.LineRule.{LineRule}
 use Rattle.script_rows.specs.declared.words.LineRule.TheVariants as rule
 use Rattle.script_text.specs.Text.{refusal_text, reply_text}
@@ -17,7 +13,6 @@ use Rattle.host_machine.specs.Given.{written}
 use Rattle.host_machine.specs.Hosts.{Answers, Stays, WhereItRuns}
 use Rattle.host_machine.specs.declared.host_machine.HostMachine.{HostMachine}
 use Rattle.host_machine.specs.Machines.{Running}
-use Rattle.host_machine.specs.ReportLines.{report_row}
 
 -- 768 and the number of the rule that a line breaks
 abbrev pub line_size : LineRule → ℕ
@@ -28,29 +23,6 @@ line_size rule.SettingAfterAction = 0x304
 line_size rule.BreaksConfiguration = 0x305
 line_size rule.StorageNotFirst = 0x306
 line_size rule.MisplacedRace = 0x307
-
--- the words of the first line of a text
-abbrev pub first_of : List (List ℕ) → List ℕ
-first_of [] = []
-first_of (line ∷ lines) = line
-
-abbrev pub words_of : List ℕ → List (List ℕ)
-words_of text = words_between_blanks (first_of (lines_of text))
-
--- the event that words ask for: a line that hands in what a device answered, or one of a script; a line of a device or of a glance
--- asks for none
-abbrev pub event_of_action : Action → Result Event LineRule
-event_of_action (action.Event e) = Ok e
-event_of_action other = Err rule.UnknownWord
-
-abbrev pub event_of_row : Option (Result Action LineRule) → Result Event LineRule
-event_of_row None = Err rule.UnknownWord
-event_of_row (Some (Err broken)) = Err broken
-event_of_row (Some (Ok asked)) = event_of_action asked
-
-abbrev pub event_of_words : List (List ℕ) → Result Event LineRule
-event_of_words [] = Err rule.UnknownWord
-event_of_words (word ∷ words) = if bytes_eq word (codes "report") then report_row words else event_of_row (action_row word words)
 
 -- what is printed of an answer
 abbrev pub answer_text : Result Reply HostFault → List ℕ

@@ -5,9 +5,10 @@ use Rattle.script_rows.specs.Settings.{configured, setting_row}
 use Rattle.script_rows.specs.declared.settings.Setting.{Setting}
 use Rattle.script_rows.specs.declared.words.LineRule.{LineRule}
 use Rattle.script_rows.specs.declared.words.LineRule.TheVariants.{UnknownWord}
+use Rattle.event_lines.specs.ReadLines.{words_of}
 use Rattle.host_machine.specs.Answers.{at_other_stage, below, no_memory}
 use Rattle.host_machine.specs.Hosts.{SetsUpBy, Stays}
-use Rattle.host_machine.specs.Lines.{line_size, words_of}
+use Rattle.host_machine.specs.Lines.{line_size}
 use Rattle.host_machine.specs.declared.host_machine.HostMachine.{HostMachine}
 use Rattle.host_machine.specs.declared.host_machine.HostMachine.TheVariants.{SettingUp, Runs}
 

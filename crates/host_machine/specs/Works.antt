@@ -4,7 +4,6 @@ use Rattle.std.specs.Option.{option_or}
 use Rattle.chan_model.specs.declared.fault.Fault.TheVariants as fault
 use Rattle.chan_model.specs.Reports.{Call, DeviceAnswer, Work}
 use Rattle.chan_model.specs.declared.names.Side.{Side}
-use Rattle.chan_model.specs.declared.names.Side.TheVariants.{First, Second}
 use Rattle.chan_model.specs.declared.report.Call.TheVariants as call
 use Rattle.chan_model.specs.declared.report.DeviceAnswer.TheVariants as answer
 use Rattle.chan_model.specs.declared.report.Work.TheVariants as work
@@ -16,24 +15,17 @@ use Rattle.machine_model.specs.declared.state.UnitTurn.TheVariants as unit_turn
 use Rattle.signal_step.specs.PathTurns.{path_turn_of}
 use Rattle.subchannel_model.specs.declared.state.Subchannel.{Subchannel}
 use Rattle.unit_driver.specs.Turns.{word_of}
+use Rattle.event_lines.specs.Sides.{side_number, side_numbered}
 use Rattle.host_machine.specs.Answers.{below, fault_size}
+use Rattle.host_machine.specs.Dues.{Due, Enters_event, Calls_device, Nothing_due, Is_unknown}
 use Rattle.host_machine.specs.Given.{written}
 use Rattle.host_machine.specs.Hosts.{Enters, Stays, WhereItRuns}
 use Rattle.host_machine.specs.Machines.{Running}
 use Rattle.host_machine.specs.declared.host_machine.HostMachine.{HostMachine}
-use Rattle.host_machine.specs.declared.turns.Due.{Due}
-use Rattle.host_machine.specs.declared.turns.Due.TheVariants as due
+use Rattle.host_machine.specs.declared.turns.PathDue.{PathDue}
+use Rattle.host_machine.specs.declared.turns.PathDue.TheVariants as path_due
 use Rattle.host_machine.specs.declared.works.HostAnswer.{HostAnswer}
 use Rattle.host_machine.specs.declared.works.HostWork.{HostWork}
-
--- Numbers of what has names
-
-abbrev pub side_number : Side → ℕ
-side_number First = 0
-side_number Second = 1
-
-abbrev pub side_numbered : ℕ → Option Side
-side_numbered number = if number == 0 then Some First else (if number == 1 then Some Second else None)
 
 -- The call of a device, in numbers: kind 0 none, 1 the initial status of a command, 2 to absorb bytes, 3 to supply bytes, 4 the final
 -- status
@@ -126,18 +118,18 @@ report_event at w a bytes = report_with at w (side_numbered w.side) (device_answ
 -- What a turn is for
 
 -- of a unit: the signal that waits for it, or the report that needs no call; else its device is to be called, or nothing
-abbrev pub due_by_work : ℕ → Work → Due Event
-due_by_work at (work.Call side number command sequence c) = due.Calls
-due_by_work at (work.Report report) = due.Enters (event.Report at report)
+abbrev pub due_by_work : ℕ → Work → Due
+due_by_work at (work.Call side number command sequence c) = Calls_device
+due_by_work at (work.Report report) = Enters_event (event.Report at report)
 
-abbrev pub due_by : ℕ → Option UnitTurn → Due Event
-due_by at None = due.Unknown
-due_by at (Some (unit_turn.Takes id path)) = due.Enters (event.Down (word_of id) path)
+abbrev pub due_by : ℕ → Option UnitTurn → Due
+due_by at None = Is_unknown
+due_by at (Some (unit_turn.Takes id path)) = Enters_event (event.Down (word_of id) path)
 due_by at (Some (unit_turn.Works w)) = due_by_work at w
-due_by at (Some (unit_turn.Away path)) = due.Nothing
-due_by at (Some unit_turn.Rests) = due.Nothing
+due_by at (Some (unit_turn.Away path)) = Nothing_due
+due_by at (Some unit_turn.Rests) = Nothing_due
 
-abbrev pub due_of_unit : State → ℕ → Due Event
+abbrev pub due_of_unit : State → ℕ → Due
 due_of_unit s at = due_by at (unit_turn_of s at)
 
 -- of a subchannel: that of the first of its paths on which one is due
@@ -145,28 +137,47 @@ abbrev pub due_on : State → ℕ → List ℕ → Option Event
 due_on s word [] = None
 due_on s word (chpid ∷ chpids) = option_or (path_turn_of s word chpid) (due_on s word chpids)
 
-abbrev pub due_where : Option Event → Due Event
-due_where None = due.Nothing
-due_where (Some e) = due.Enters e
+abbrev pub due_where : Option Event → Due
+due_where None = Nothing_due
+due_where (Some e) = Enters_event e
 
-abbrev pub due_of_found : State → ℕ → Option Subchannel → Due Event
-due_of_found s word None = due.Unknown
+abbrev pub due_of_found : State → ℕ → Option Subchannel → Due
+due_of_found s word None = Is_unknown
 due_of_found s word (Some sub) = due_where (due_on s word sub.setup.paths)
 
-abbrev pub due_of_subchannel : State → ℕ → Due Event
+abbrev pub due_of_subchannel : State → ℕ → Due
 due_of_subchannel s word = due_of_found s word (sub_of s word)
+
+-- what stands for the event of a turn of a subchannel that a word names, and what stands for such an event
+abbrev pub event_due : ℕ → PathDue → Option Event
+event_due word (path_due.Takes path) = Some (event.Up word path)
+event_due word path_due.Chooses = Some (event.Choose word)
+event_due word path_due.Nothing = None
+
+abbrev pub path_due_of : Option Event → PathDue
+path_due_of (Some (event.Up word path)) = path_due.Takes path
+path_due_of (Some (event.Choose word)) = path_due.Chooses
+path_due_of other = path_due.Nothing
+
+abbrev pub due_by_path : ℕ → Option PathDue → Due
+due_by_path word None = Is_unknown
+due_by_path word (Some d) = due_where (event_due word d)
 
 -- 1 where an event was entered
 abbrev pub turned : ℤ → ℤ
 turned (pos answered) = pos 1
 turned (negsuc refused) = negsuc refused
 
+-- an event is entered that is due
+abbrev pub TurnsWith : Event → Running → (bytes keys : List ℕ) → ℤ → Running → (after left : List ℕ) → Type 0
+TurnsWith e old bytes keys number new after left = (entered : ℤ) × Enters old bytes keys e entered new after left × (number ≡ turned entered)
+
 -- the event that is due is entered; 2 where a device is to be called, 0 where nothing is due
-abbrev pub TurnsBy : ℕ → Due Event → Running → (bytes keys : List ℕ) → ℤ → Running → (after left : List ℕ) → Type 0
-TurnsBy unknown (due.Enters e) old bytes keys number new after left = (entered : ℤ) × Enters old bytes keys e entered new after left × (number ≡ turned entered)
-TurnsBy unknown due.Calls old bytes keys number new after left = Stays old new number (pos 2) × ((after ≡ bytes) × (left ≡ keys))
-TurnsBy unknown due.Nothing old bytes keys number new after left = Stays old new number (pos 0) × ((after ≡ bytes) × (left ≡ keys))
-TurnsBy unknown due.Unknown old bytes keys number new after left = Stays old new number (below unknown) × ((after ≡ bytes) × (left ≡ keys))
+abbrev pub TurnsBy : ℕ → Due → Running → (bytes keys : List ℕ) → ℤ → Running → (after left : List ℕ) → Type 0
+TurnsBy unknown (Enters_event e) old bytes keys number new after left = TurnsWith e old bytes keys number new after left
+TurnsBy unknown Calls_device old bytes keys number new after left = Stays old new number (pos 2) × ((after ≡ bytes) × (left ≡ keys))
+TurnsBy unknown Nothing_due old bytes keys number new after left = Stays old new number (pos 0) × ((after ≡ bytes) × (left ≡ keys))
+TurnsBy unknown Is_unknown old bytes keys number new after left = Stays old new number (below unknown) × ((after ≡ bytes) × (left ≡ keys))
 
 -- of a unit, and of a subchannel
 abbrev pub UnitTurns : Running → (bytes keys : List ℕ) → ℕ → ℤ → Running → (after left : List ℕ) → Type 0

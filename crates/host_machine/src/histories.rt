@@ -1,7 +1,7 @@
 //! The entries that are kept, as text.
 
 ghost use Rattle.std.specs.Prelude.{◌≡◌, length, pos, slice_get};
-ghost use Rattle.host_machine.specs.EventLines.{event_text};
+ghost use Rattle.event_lines.specs.EventLines.{event_text};
 ghost use Rattle.host_machine.specs.Histories as spec;
 ghost use Rattle.host_machine.specs.Histories.{Forgets, HasForgotten, TellsEntry};
 ghost use Rattle.host_machine.specs.Lines.{Tells};
@@ -9,13 +9,13 @@ ghost use Rattle.host_machine.specs.Looks.{Shows};
 ghost use Rattle.script_text.specs.Text.{reply_text};
 
 use crate::answers::{AT_OTHER_STAGE, BAD_ARGUMENT};
-use crate::event_lines::put_event;
 use crate::host_machine::HostMachine;
 use crate::lines::ToldLine;
 use crate::running::Running;
 use crate::told::Told;
 use chan_events::event::Event;
 use chan_events::reply::Reply;
+use event_lines::putting::put_event;
 use script_text::put_reply;
 
 /// The line of an event is written into a room, as far as it fits: how many bytes.

@@ -7,13 +7,11 @@
 #![tactic(auto)]
 
 pub mod answers;
-pub mod event_lines;
 mod given;
 pub mod histories;
 pub mod host_machine;
 pub mod lines;
 mod looking;
-mod report_line;
 pub mod running;
 pub mod seen;
 pub mod setting_up;

@@ -1,27 +1,23 @@
 //! A line of a script, performed and answered as text.
 
-ghost use Rattle.std.specs.Prelude.{◌≡◌, IfOk, OnErr, map, true};
+ghost use Rattle.std.specs.Prelude.{◌≡◌};
 ghost use Rattle.host_machine.specs.Answers.{answer_number, below};
 ghost use Rattle.host_machine.specs.Lines as spec;
 ghost use Rattle.host_machine.specs.Lines.{PerformsEvent, PerformsLine, Tells};
-ghost use Rattle.script_rows.specs.Actions.{action_row};
 ghost use Rattle.streams.specs.Sinks.{Puts};
 
 use crate::answers::{AT_OTHER_STAGE, NO_MEMORY, refusal_number, reply_number};
 use crate::host_machine::HostMachine;
-use crate::report_line::report_row;
 use crate::running::Running;
 use crate::told::Told;
 use chan_events::event::Event;
 use chan_events::reply::Reply;
 use channel_subsystem::host_fault::HostFault;
-use memory::{Allocator, Supply};
-use script::text::TextLine;
-use script_rows::actions::action_row;
-use script_rows::slots::{ActionSlot, KeptAction};
-use script_rows::words::{LineRule, is_name};
+use event_lines::reading::{event_of, words_of};
+use memory::Allocator;
+use script_rows::words::LineRule;
 use script_text::{put_refusal, put_reply};
-use std::alloc::{AllocError, Global};
+use std::alloc::Global;
 use streams::Sink;
 
 /// What is told of a line: the number of its answer, and how many bytes of its text were written.
@@ -43,48 +39,6 @@ pub fn line_number(rule: LineRule) -> i32
         LineRule::BreaksConfiguration => -0x305,
         LineRule::StorageNotFirst => -0x306,
         LineRule::MisplacedRace => -0x307,
-    }
-}
-
-/// The words of the first line of a text.
-pub(crate) fn words_of<'a, S: Supply>(
-    alloc: Global,
-    supply: &mut S,
-    text: &'a [u8],
-) -> Result<Vec<&'a [u8]>, AllocError>
-    ensures words { IfOk result (λ words. map (λ w. w.now) words.items ≡ spec.words_of text.now) }
-    ensures memory { OnErr result (S.refused supply.new ≡ true) }
-{
-    let mut words = Vec::new(alloc);
-    TextLine::first(text).words_to(supply, &mut words)?;
-    Ok(words)
-}
-
-/// The event that the words of a line of a script ask for, behind its first word.
-fn event_of_script(first: &[u8], others: &[&[u8]]) -> Result<Event, LineRule>
-    ensures { result ≡ spec.event_of_row (action_row first.now (map (λ w. w.now) others.now)) }
-{
-    let mut slot = ActionSlot::new();
-    if !action_row(&mut slot, first, others)? {
-        return Err(LineRule::UnknownWord);
-    }
-    match &slot.kept {
-        KeptAction::Event(event) => Ok(event.own(slot.bytes())),
-        KeptAction::Dev(_) | KeptAction::Glance(_) => Err(LineRule::UnknownWord),
-    }
-}
-
-/// The event that the words of a line ask for.
-fn event_of(words: &[&[u8]]) -> Result<Event, LineRule>
-    ensures { result ≡ spec.event_of_words (map (λ w. w.now) words.now) }
-{
-    let [first, others @ ..] = words else {
-        return Err(LineRule::UnknownWord);
-    };
-    if is_name(first, b"report") {
-        report_row(others)
-    } else {
-        event_of_script(first, others)
     }
 }
 

@@ -10,9 +10,10 @@ ghost use Rattle.host_machine.specs.SettingLines.{SetsUpLine, TakesLine, TakesWo
 
 use crate::answers::{AT_OTHER_STAGE, NO_MEMORY, config_number};
 use crate::host_machine::HostMachine;
-use crate::lines::{line_number, words_of};
+use crate::lines::line_number;
 use channel_config::config::{Config, ConfigFault};
 use channel_config::parts::{ConcurrentSense, PathReturn, UnitKind};
+use event_lines::reading::words_of;
 use memory::{Allocator, Supply};
 use script_rows::settings::{self, setting_row};
 use script_rows::words::{LineFault, LineRule};

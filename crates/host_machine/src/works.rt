@@ -12,8 +12,8 @@ use crate::given::write_first;
 use crate::running::Running;
 use chan_events::event::Event;
 use chan_model::chunk::Chunk;
-use chan_model::names::Side;
 use chan_model::report::{Call, DeviceAnswer, LentCall, LentWork, Report, Work};
+use event_lines::side_numbers::{side_number, side_numbered};
 use machine_model::state::UnitTurn;
 use scsw_irb::status::DeviceStatus;
 
@@ -95,27 +95,6 @@ impl HostWork {
             },
             Call::Finish => HostWork { kind: 4, ..self },
         }
-    }
-}
-
-/// The number of a side.
-fn side_number(side: Side) -> u32
-    ensures { result ≡ spec.side_number side }
-{
-    match side {
-        Side::First => 0,
-        Side::Second => 1,
-    }
-}
-
-/// The side of a number.
-pub fn side_numbered(number: u32) -> Option<Side>
-    ensures { result ≡ spec.side_numbered number }
-{
-    match number {
-        0 => Some(Side::First),
-        1 => Some(Side::Second),
-        _ => None,
     }
 }
 

@@ -1,0 +1,6 @@
+pub mod Blanks
+pub mod Digits
+pub mod Lengths
+pub mod Rows
+pub mod Speaking
+pub mod Wholes
