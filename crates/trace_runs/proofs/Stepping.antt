@@ -286,3 +286,7 @@ has_told old followed new line before between after list next entry last answere
 -- the same where the machine is shown as a value
 pub at_value : (value old new : Traced) (line : ℕ) (before after : List Record) → value ≡ old → HasTold value line before after new → HasTold old line before after new
 at_value value old new line before after is h = subst (λ (t : Traced). HasTold t line before after new) is h
+
+pub from_value : (value old new : Traced) (line : ℕ) (action : Action) (before after : List Record) → value ≡ old →
+    (IsSeen value → HasStepped value line action before after new) → IsSeen old → HasStepped old line action before after new
+from_value value old new line action before after is h = subst (λ (t : Traced). IsSeen t → HasStepped t line action before after new) is h

@@ -113,7 +113,9 @@ fn perform_named<J: MachineBrand, M: CoreSupply>(
 {
     let mut tracer = Tracer::<J>::new(alloc, supply, config, parts)?;
     let mut records = Vec::new(alloc);
-    perform(&mut tracer, supply, lines, &mut records)?;
+    if let Err(fault) = perform(&mut tracer, supply, lines, &mut records) {
+        return Err(fault);
+    }
     let (parties, audited) = tracer.finish();
     if audited {
         Ok(Performed { parties, records })

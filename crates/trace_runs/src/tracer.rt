@@ -309,19 +309,21 @@ impl<J: MachineBrand> Tracer<J> {
         let path_return = config.path_return();
         let requests = Requests::none(alloc, supply, parties.subchannels.len())?;
         let (machine, _) = ScriptedMachine::<J>::new(alloc, supply, config, parts, 0)?;
-        let seen = first_seen(alloc, supply, machine.subsystem(), &parties)?;
-        Ok(Tracer {
-            alloc,
-            machine,
-            buffers: EventBuffers::new(),
-            parties,
-            path_return,
-            requests,
-            sight: seen.sight,
-            waiting: seen.waiting,
-            next: Sight::none(alloc),
-            list: Vec::new(alloc),
-        })
+        match first_seen(alloc, supply, machine.subsystem(), &parties) {
+            Ok(seen) => Ok(Tracer {
+                alloc,
+                machine,
+                buffers: EventBuffers::new(),
+                parties,
+                path_return,
+                requests,
+                sight: seen.sight,
+                waiting: seen.waiting,
+                next: Sight::none(alloc),
+                list: Vec::new(alloc),
+            }),
+            Err(fault) => Err(fault),
+        }
     }
 
     /// The machine, to look at.

@@ -1,27 +1,26 @@
-use Rattle.std.proofs.Common.{◌∙◌, ap, rules, sym, subst}
-use Rattle.script_rows.specs.Slots.{action_in}
-use Rattle.script_runner.specs.Acting.{ActionOutcome, PerformsAction}
-use Rattle.trace_runs.proofs.Stepping.{stepped_quiet, stepped_told}
-use Rattle.trace_runs.specs.Tracing.{Traced}
+use Rattle.std.proofs.Common.{rules, refl}
+use Rattle.std.specs.Prelude.{Ok, Err}
+use Rattle.script_text.specs.declared.ActionResult.TheVariants as came
+use Rattle.trace_runs.proofs.Stepping.{from_value, stepped_quiet, stepped_told}
 use Rattle.trace_runs.proofs.tracer.Tracer.step.Goals as goal
 
-pub returns-in_ok-add-in-Ok-Looked : goal.returns-in_ok-add-in-Ok-Looked
-returns-in_ok-add-in-Ok-Looked g c =
-    stepped_quiet _ _ c.act-acted.new.self _ _ c.outcome_of-outcome.result _ _ c.in_ok-facts.facts
-    (subst (λ (t : Traced). PerformsAction t.machine (action_in c.args.action.now c.args.bytes.now) c.outcome_of-outcome.result c.act-acted.new.self) c.self.view_is
-    (subst (λ (r : ActionOutcome). PerformsAction c.self.inside.machine (action_in c.args.action.now c.args.bytes.now) r c.act-acted.new.self)
-    (sym c.outcome_of-outcome.ensures) c.act-acted.ensures.performs)) (search rules) (c.in_ok-add-in-Ok-Looked.ensures.kept ∙ (c.take_list.ensures.kept ∙ ap (λ (t : Traced). record t { machine = c.act-acted.new.self }) c.self.view_is)) c.in_ok-facts.ensures c.in_ok-add-in-Ok-Looked.ensures.added
+pub returns-in_ok-add_looked-in-Ok-Looked-clause-stepped : goal.returns-in_ok-add_looked-in-Ok-Looked-clause-stepped
+returns-in_ok-add_looked-in-Ok-Looked-clause-stepped g c =
+    from_value _ _ _ _ _ _ _ c.self.view_is
+    (stepped_quiet _ _ c.act.new.self _ _ _ (Ok (came.Serials c.in-Ok-Looked.found)) c.instructed-named.result _ _ _ c.act.ensures.performs
+    (search rules) refl refl (c.instructed-named.ensures c.args.bytes.now) c.in_ok-add_beginning.ensures.added
+    c.in_ok-add_looked-in-Ok-Looked.ensures.added)
 
-pub returns-in_ok-add-in-Err : goal.returns-in_ok-add-in-Err
-returns-in_ok-add-in-Err g c =
-    stepped_quiet _ _ c.act-acted.new.self _ _ c.outcome_of-outcome.result _ _ c.in_ok-facts.facts
-    (subst (λ (t : Traced). PerformsAction t.machine (action_in c.args.action.now c.args.bytes.now) c.outcome_of-outcome.result c.act-acted.new.self) c.self.view_is
-    (subst (λ (r : ActionOutcome). PerformsAction c.self.inside.machine (action_in c.args.action.now c.args.bytes.now) r c.act-acted.new.self)
-    (sym c.outcome_of-outcome.ensures) c.act-acted.ensures.performs)) (search rules) (c.in_ok-add-in-Err.ensures.kept ∙ (c.take_list.ensures.kept ∙ ap (λ (t : Traced). record t { machine = c.act-acted.new.self }) c.self.view_is)) c.in_ok-facts.ensures c.in_ok-add-in-Err.ensures.added
+pub returns-in_ok-add_refusal-in-Err-clause-stepped : goal.returns-in_ok-add_refusal-in-Err-clause-stepped
+returns-in_ok-add_refusal-in-Err-clause-stepped g c =
+    from_value _ _ _ _ _ _ _ c.self.view_is
+    (stepped_quiet _ _ c.act.new.self _ _ _ (Err c.in-Err.fault) c.instructed-named.result _ _ _ c.act.ensures.performs
+    (search rules) refl refl (c.instructed-named.ensures c.args.bytes.now) c.in_ok-add_beginning.ensures.added
+    c.in_ok-add_refusal-in-Err.ensures.added)
 
-pub returns-in_ok-tell-in-Ok-Replied : goal.returns-in_ok-tell-in-Ok-Replied
-returns-in_ok-tell-in-Ok-Replied g c =
-    stepped_told _ _ _ c.act-acted.new.self _ _ c.outcome_of-outcome.result c.in_ok-facts.facts _ _
-    (subst (λ (t : Traced). PerformsAction t.machine (action_in c.args.action.now c.args.bytes.now) c.outcome_of-outcome.result c.act-acted.new.self) c.self.view_is
-    (subst (λ (r : ActionOutcome). PerformsAction c.self.inside.machine (action_in c.args.action.now c.args.bytes.now) r c.act-acted.new.self)
-    (sym c.outcome_of-outcome.ensures) c.act-acted.ensures.performs)) (c.take_list.ensures.kept ∙ ap (λ (t : Traced). record t { machine = c.act-acted.new.self }) c.self.view_is) c.in_ok-facts.ensures c.in_ok-tell-in-Ok-Replied.ensures
+pub returns-in_ok-tell-in-Ok-Replied-clause-stepped : goal.returns-in_ok-tell-in-Ok-Replied-clause-stepped
+returns-in_ok-tell-in-Ok-Replied-clause-stepped g c =
+    from_value _ _ _ _ _ _ _ c.self.view_is
+    (stepped_told _ _ _ c.act.new.self _ _ _ c.instructed-named.result _ _ _ c.act.ensures.performs
+    (search rules) refl (c.instructed-named.ensures c.args.bytes.now) c.in_ok-add_beginning.ensures.added
+    c.in_ok-tell-in-Ok-Replied.ensures.told)

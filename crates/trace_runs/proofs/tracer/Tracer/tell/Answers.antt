@@ -13,6 +13,7 @@ returns-clause-told g c =
     (subst (λ (h : List Entry). IsLast h c.in-Some.entry) c.subsystem-2.ensures.history c.in-Some.ensures) c.in_ok-add_reply.ensures.added
     c.in_ok-add_all.ensures.added c.in_ok-list.ensures.answers c.in_ok-list.ensures.moves c.in_ok-list.ensures.holds
     (subst (λ s. Shows s c.self.inside.parties c.look.new.self) c.subsystem.ensures.state c.in_default.ensures.shown)
-    (search rules) (c.in_ok-follow.ensures.told (search rules)) (search rules)
+    (search rules) (c.in_ok-follow.ensures.told (search rules))
+    (c.follow.ensures.kept ∙ ap (λ (t : Traced). record t { waiting = c.follow.new.self.waiting }) c.facts_to.ensures.kept)
     (ap (λ (t : Traced). record t { sight = c.replace.new.dest }) c.self-3.view_is
     ∙ ap (λ (s : Sight). record c.follow.new.self { sight = s }) c.replace.ensures.after))
