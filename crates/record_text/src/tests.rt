@@ -61,15 +61,19 @@ fn storage(why: StorageRefusal) -> Refusal {
     }
 }
 
+/// The wire down path 0 of the first subchannel.
+fn first_wire(rt: &impl Abort) -> Wire {
+    Wire {
+        subchannel: 0,
+        path: path(rt, 0),
+        way: Way::Down,
+    }
+}
+
 #[test]
 fn empty_wires_are_told(rt: HostRuntime) {
-    let wire = Wire {
-        subchannel: 0,
-        path: path(&rt, 0),
-        way: Way::Down,
-    };
     let alone = Refusal::NothingWaits {
-        wire,
+        wire: first_wire(&rt),
         elsewhere: None,
     };
     assert!(rt;
@@ -80,7 +84,7 @@ fn empty_wires_are_told(rt: HostRuntime) {
         )
     );
     let other = Refusal::NothingWaits {
-        wire,
+        wire: first_wire(&rt),
         elsewhere: Some(accept(&rt)),
     };
     assert!(rt;
