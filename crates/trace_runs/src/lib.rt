@@ -9,6 +9,7 @@ ghost use Rattle.script_runner.specs.Acting.{Installed, IsAudited, IsOpening};
 ghost use Rattle.trace_runs.specs.Faults.{IsFaultIn, IsFaultOf, IsScriptFault};
 ghost use Rattle.trace_runs.specs.Tracing.{HasPerformedAt, HasTraced, IsSeen, IsTraced};
 
+mod adding;
 #[cfg(test)]
 mod tests;
 pub mod tracer;

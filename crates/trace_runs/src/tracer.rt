@@ -6,21 +6,19 @@ ghost use Rattle.subsystem.specs.Keeping.{all_serials};
 ghost use Rattle.core_lock.specs.Directory.{directory_of};
 ghost use Rattle.script_rows.specs.Slots.{action_in, action_length};
 ghost use Rattle.script_runner.specs.Acting.{IsAudited, IsOpening};
-ghost use Rattle.script_text.specs.declared.ActionResult.TheVariants as result_spec;
 ghost use Rattle.chan_model.specs.declared.fault.Fault.TheVariants as refusal_spec;
 ghost use Rattle.machine_sight.specs.Balance.{IsBalanced};
-ghost use Rattle.machine_sight.specs.Finding.{found_of};
 ghost use Rattle.machine_sight.specs.Shown.{Shows, TellsWaiting};
-ghost use Rattle.step_facts.specs.Told.{answers_of, line_record};
-ghost use Rattle.step_records.specs.declared.record.Fact.TheVariants as fact_spec;
+ghost use Rattle.step_facts.specs.Told.{answers_of};
 ghost use Rattle.trace_runs.specs.Faults.{IsFaultAt, fault_told};
 ghost use Rattle.trace_runs.specs.Tracing as spec;
 ghost use Rattle.trace_runs.specs.Tracing.{AreHeldBy, AreOf, HasReason, HasStepped, HasTold, IsLast, IsMovedBy, IsSeen};
 ghost use Rattle.trace_runs.specs.declared.tracer.Stepped.TheVariants as stepped_spec;
 
 use crate::TraceFault;
+use crate::adding::{add_all, add_beginning, add_fact, add_looked, add_refusal, add_reply};
 use chan_events::event::Event;
-use chan_events::reply::{Entry, Reply};
+use chan_events::reply::Entry;
 use chan_model::fault::Fault;
 use channel_config::config::Config;
 use channel_config::parts::PathReturn;
@@ -31,14 +29,12 @@ use machine::looks::Looks;
 use machine_sight::looking::SightFault;
 use machine_sight::sight::Sight;
 use machine_sight::waiting::Waiting;
-use memory::{Supply, make_room, push};
+use memory::Supply;
 use path_select::Rotating;
 use refusal_reasons::refusal_of;
 use script_rows::slots::KeptAction;
 use script_runner::buffers::EventBuffers;
 use script_runner::scripted_machine::{Acted, ScriptedMachine};
-use script_text::ActionResult;
-use scsw_irb::serials::Serials;
 use std::alloc::{AllocError, Global};
 use std::marker::Model;
 use std::mem;
@@ -116,143 +112,6 @@ fn instructed(parties: &Participants, action: &KeptAction) -> Option<usize>
         }
         _ => None,
     }
-}
-
-/// One record more of this line.
-fn add_fact<S: Supply>(
-    supply: &mut S,
-    line: u64,
-    fact: Fact,
-    records: &mut Vec<Record>,
-) -> Result<(), AllocError>
-    ensures added { OnOk result (records.new.items ≡ records.old.items ++ line_record line fact ∷ []) }
-    ensures unrefused { OnOk result (S.refused supply.new ≡ S.refused supply.old) }
-    ensures memory { OnErr result (S.refused supply.new ≡ true) }
-{
-    push(supply, records, Record { line, fact })
-}
-
-/// The line itself.
-#[inline(never)]
-fn add_event<S: Supply>(
-    supply: &mut S,
-    line: u64,
-    records: &mut Vec<Record>,
-) -> Result<(), AllocError>
-    ensures added { OnOk result (records.new.items ≡ records.old.items ++ line_record line fact_spec.Event ∷ []) }
-    ensures unrefused { OnOk result (S.refused supply.new ≡ S.refused supply.old) }
-    ensures memory { OnErr result (S.refused supply.new ≡ true) }
-{
-    add_fact(supply, line, Fact::Event, records)
-}
-
-/// What an instruction finds of a subchannel, where it is there.
-#[inline(never)]
-fn add_found<S: Supply>(
-    supply: &mut S,
-    line: u64,
-    sight: &Sight,
-    subchannel: usize,
-    records: &mut Vec<Record>,
-) -> Result<(), AllocError>
-    ensures added { OnOk result (records.new.items ≡ records.old.items ++ spec.found_records line (found_of sight.now subchannel)) }
-    ensures unrefused { OnOk result (S.refused supply.new ≡ S.refused supply.old) }
-    ensures memory { OnErr result (S.refused supply.new ≡ true) }
-{
-    match sight.found(subchannel) {
-        Some(found) => add_fact(supply, line, found, records),
-        None => Ok(()),
-    }
-}
-
-/// The line, and what its instruction finds of the subchannel that it names.
-fn add_beginning<S: Supply>(
-    supply: &mut S,
-    line: u64,
-    sight: &Sight,
-    subchannel: Option<usize>,
-    records: &mut Vec<Record>,
-) -> Result<(), AllocError>
-    ensures added { OnOk result (records.new.items ≡ records.old.items ++ spec.beginning line (spec.found_where sight.now subchannel)) }
-    ensures unrefused { OnOk result (S.refused supply.new ≡ S.refused supply.old) }
-    ensures memory { OnErr result (S.refused supply.new ≡ true) }
-{
-    add_event(supply, line, records)?;
-    match subchannel {
-        Some(subchannel) => add_found(supply, line, sight, subchannel, records),
-        None => Ok(()),
-    }
-}
-
-/// What an event that was accepted came to.
-#[inline(never)]
-fn add_reply<S: Supply>(
-    supply: &mut S,
-    line: u64,
-    reply: Reply,
-    records: &mut Vec<Record>,
-) -> Result<(), AllocError>
-    ensures added { OnOk result (records.new.items ≡ records.old.items ++ spec.answer_record line (Ok (result_spec.Reply reply)) ∷ []) }
-    ensures unrefused { OnOk result (S.refused supply.new ≡ S.refused supply.old) }
-    ensures memory { OnErr result (S.refused supply.new ≡ true) }
-{
-    add_fact(
-        supply,
-        line,
-        Fact::Answer(Ok(ActionResult::Reply(reply))),
-        records,
-    )
-}
-
-/// What a look came to.
-#[inline(never)]
-fn add_looked<S: Supply>(
-    supply: &mut S,
-    line: u64,
-    found: Serials,
-    records: &mut Vec<Record>,
-) -> Result<(), AllocError>
-    ensures added { OnOk result (records.new.items ≡ records.old.items ++ spec.answer_record line (Ok (result_spec.Serials found)) ∷ []) }
-    ensures unrefused { OnOk result (S.refused supply.new ≡ S.refused supply.old) }
-    ensures memory { OnErr result (S.refused supply.new ≡ true) }
-{
-    add_fact(
-        supply,
-        line,
-        Fact::Answer(Ok(ActionResult::Serials(found))),
-        records,
-    )
-}
-
-/// That an action was refused.
-#[inline(never)]
-fn add_refusal<S: Supply>(
-    supply: &mut S,
-    line: u64,
-    fault: Fault,
-    records: &mut Vec<Record>,
-) -> Result<(), AllocError>
-    ensures added { OnOk result (records.new.items ≡ records.old.items ++ spec.answer_record line (Err fault) ∷ []) }
-    ensures unrefused { OnOk result (S.refused supply.new ≡ S.refused supply.old) }
-    ensures memory { OnErr result (S.refused supply.new ≡ true) }
-{
-    add_fact(supply, line, Fact::Answer(Err(fault)), records)
-}
-
-/// Moves records behind others.
-fn add_all<S: Supply>(
-    supply: &mut S,
-    list: &mut Vec<Record>,
-    records: &mut Vec<Record>,
-) -> Result<(), AllocError>
-    ensures added { OnOk result (records.new.items ≡ records.old.items ++ list.old.items) }
-    ensures moved { OnOk result (list.new.items ≡ []) }
-    ensures unrefused { OnOk result (S.refused supply.new ≡ S.refused supply.old) }
-    ensures memory { OnErr result (S.refused supply.new ≡ true) }
-{
-    make_room(supply, records, list.len())?;
-    let _ = records.append(list);
-    Ok(())
 }
 
 /// What is seen of a machine at which nothing waits.
