@@ -9,6 +9,7 @@ ghost use Rattle.step_facts.specs.Told.{OnlyHeld, with_holds};
 mod channel_paths;
 mod data;
 pub mod holds;
+mod losses;
 mod moves;
 pub mod statuses;
 pub mod subchannels;
@@ -40,7 +41,7 @@ pub fn add_facts<S: Supply, L: Looks>(
 {
     channel_paths::add_paths(supply, step, facts)?;
     moves::add_met(supply, step, facts)?;
-    moves::add_lost(supply, step, looks, facts)?;
+    losses::add_lost(supply, step, looks, facts)?;
     add_inner_facts(supply, step, requests, facts)?;
     moves::add_sent(supply, step, looks, facts)?;
     units::add_last_acts(supply, step, facts)?;

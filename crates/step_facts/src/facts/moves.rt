@@ -23,7 +23,7 @@ use step_records::record::{Moved, Signal, Way, Wire};
 use wires::Wires;
 
 /// How many signals a wire holds at most.
-const WIRE_ROOM: usize = 8;
+pub(crate) const WIRE_ROOM: usize = 8;
 
 /// What became of a signal that was met.
 fn met_as(taken: bool) -> Moved
@@ -127,89 +127,8 @@ pub(crate) fn add_met<S: Supply>(
     }
 }
 
-/// Whether an event may lose what waits on wires: a path goes down or is reset, or the subsystem is.
-fn loses(event: &Event) -> bool
-    ensures { spec.is_told_by_reply event.now ≡ true → result ≡ false }
-{
-    matches!(
-        event,
-        Event::PathDown { .. } | Event::PathReset { .. } | Event::SystemReset
-    )
-}
-
-/// The signals that were lost on the wires: what waited before and waits no more.
-pub(crate) fn add_lost<S: Supply, L: Looks>(
-    supply: &mut S,
-    step: &Step<'_>,
-    looks: &L,
-    facts: &mut StepFacts,
-) -> Result<(), AllocError>
-    ensures only { OnlyMoved facts.old facts.new }
-    ensures none { spec.is_told_by_reply step.now.event.now ≡ true → facts.new ≡ facts.old }
-    ensures unrefused { OnOk result (S.refused supply.new ≡ S.refused supply.old) }
-    ensures memory { OnErr result (S.refused supply.new ≡ true) }
-{
-    if loses(step.event()) {
-        add_all_lost(supply, step, looks, facts)
-    } else {
-        Ok(())
-    }
-}
-
-/// Those of all subchannels.
-fn add_all_lost<S: Supply, L: Looks>(
-    supply: &mut S,
-    step: &Step<'_>,
-    looks: &L,
-    facts: &mut StepFacts,
-) -> Result<(), AllocError>
-    ensures only { OnlyMoved facts.old facts.new }
-    ensures unrefused { OnOk result (S.refused supply.new ≡ S.refused supply.old) }
-    ensures memory { OnErr result (S.refused supply.new ≡ true) }
-{
-    for subchannel in 0..step.parties.subchannels.len() {
-        let word = word_of(step.parties.subchannels[subchannel].id);
-        if let Some(sub) = looks.subchannel(word) {
-            add_lost_of(supply, step, subchannel, &sub.wires, facts)?;
-        }
-    }
-    Ok(())
-}
-
-/// Those of a subchannel.
-fn add_lost_of<S: Supply>(
-    supply: &mut S,
-    step: &Step<'_>,
-    subchannel: usize,
-    wires: &Wires,
-    facts: &mut StepFacts,
-) -> Result<(), AllocError>
-    ensures only { OnlyMoved facts.old facts.new }
-    ensures unrefused { OnOk result (S.refused supply.new ≡ S.refused supply.old) }
-    ensures memory { OnErr result (S.refused supply.new ≡ true) }
-{
-    for index in 0..8u32 {
-        if let Some(path) = Path::new(index) {
-            add_lost_on(
-                supply,
-                step,
-                &wire_of(subchannel, path, Way::Down),
-                wires,
-                facts,
-            )?;
-            add_lost_on(
-                supply,
-                step,
-                &wire_of(subchannel, path, Way::Up),
-                wires,
-                facts,
-            )?;
-        }
-    }
-    Ok(())
-}
-
-fn wire_of(subchannel: usize, path: Path, way: Way) -> Wire
+/// The wire of a path of a subchannel.
+pub(crate) fn wire_of(subchannel: usize, path: Path, way: Way) -> Wire
     ensures { result ≡ record { subchannel = subchannel; path = path; way = way } }
 {
     Wire {
@@ -217,38 +136,6 @@ fn wire_of(subchannel: usize, path: Path, way: Way) -> Wire
         path,
         way,
     }
-}
-
-/// How many signals wait on a wire.
-fn count_on(wires: &Wires, wire: &Wire) -> usize {
-    for count in 0..WIRE_ROOM {
-        if is_past(wires, wire.way, wire.path, count) {
-            return count;
-        }
-    }
-    WIRE_ROOM
-}
-
-/// Those of a wire: the oldest, as many as wait no more.
-fn add_lost_on<S: Supply>(
-    supply: &mut S,
-    step: &Step<'_>,
-    wire: &Wire,
-    wires: &Wires,
-    facts: &mut StepFacts,
-) -> Result<(), AllocError>
-    ensures only { OnlyMoved facts.old facts.new }
-    ensures unrefused { OnOk result (S.refused supply.new ≡ S.refused supply.old) }
-    ensures memory { OnErr result (S.refused supply.new ≡ true) }
-{
-    let before = step.waiting.signals(wire);
-    let left = count_on(wires, wire);
-    for index in 0..before.len() {
-        if left < before.len() - index {
-            facts.push_signal(supply, *wire, Moved::Lost, before[index].copy())?;
-        }
-    }
-    Ok(())
 }
 
 /// The signal that was sent: that of the reply, or for a report and an act of a unit that which is new on a wire.
