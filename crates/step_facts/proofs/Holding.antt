@@ -17,7 +17,7 @@ hold-more first now next ending befores afters n so is =
     ∙ ap (λ (m : ℕ). with_holds first (hold_changes ending befores afters m)) one))
 
 pub held-more : (first now next : Told) → OnlyHeld first now → OnlyHeld now next → OnlyHeld first next
-held-more first now next a b = (b.0 ∙ a.0, b.1 ∙ a.1, b.2 ∙ a.2)
+held-more first now next a b = (b.0 ∙ a.0, b.1 ∙ a.1, b.2 ∙ a.2, b.3 ∙ a.3)
 
 -- the holds of one subchannel, where it was seen or was not
 pub held-none : (told : Told) (ending : Bool) (n : ℕ) (a b : Option Unwired) → a ≡ None → told ≡ with_holds told (hold_change_at ending n a b)

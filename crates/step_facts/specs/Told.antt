@@ -1,5 +1,5 @@
 -- What the facts of a step tell, by kind: what its line came to, the signals that moved, and the holds that changed.
-use Rattle.std.specs.Prelude.{◌≡◌, ℕ, Bool, true, false, ◌||◌, not, List, [], ◌∷◌, ◌++◌, map, Result, Option, None, Some}
+use Rattle.std.specs.Prelude.{◌≡◌, ℕ, Bool, true, false, ◌||◌, not, List, [], ◌∷◌, ◌++◌, drop, map, take, Result, Option, None, Some}
 use Rattle.std.specs.List.{filter, filter_map}
 use Rattle.chan_model.specs.declared.fault.Fault.{Fault}
 use Rattle.script_text.specs.declared.ActionResult.{ActionResult}
@@ -42,20 +42,33 @@ answers_of records = filter_map (λ r. answered_by r.line r.fact) records
 
 pub record Told : Type 0 where
   pub line : ℕ
+  pub before : List Record
   pub answers : List AnsweredLine
   pub moves : List Fact
   pub holds : List Fact
 
-abbrev pub told_of : ℕ → List Record → Told
-told_of line records = record {
+-- what facts tell that stand behind other records
+abbrev pub told_behind : ℕ → List Record → List Record → Told
+told_behind line before facts = record {
   line = line;
-  answers = answers_of records;
-  moves = facts_where is_move records;
-  holds = facts_where is_hold records;
+  before = before;
+  answers = answers_of facts;
+  moves = facts_where is_move facts;
+  holds = facts_where is_hold facts;
 }
 
-abbrev pub nothing_told : ℕ → Told
-nothing_told line = record { line = line; answers = []; moves = []; holds = [] }
+-- the same where all stand in one list, the facts from this index on
+abbrev pub told_of : ℕ → ℕ → List Record → Told
+told_of line first records = told_behind line (take first records) (drop first records)
+
+abbrev pub nothing_told : ℕ → List Record → Told
+nothing_told line before = record { line = line; before = before; answers = []; moves = []; holds = [] }
+
+-- these are the records that stood there before, and behind them facts that tell this
+pub record AreToldBy (told : Told) (records : List Record) : Type 0 where
+  pub facts : List Record
+  pub added : records ≡ told.before ++ facts
+  pub tell : told ≡ told_behind told.line told.before facts
 
 -- one fact more
 abbrev pub only : (Fact → Bool) → Fact → List Fact
@@ -79,7 +92,7 @@ with_holds told facts = record told { holds = told.holds ++ facts }
 
 -- only signals that moved were told, or only holds that changed
 abbrev pub OnlyMoved : Told → Told → Type 0
-OnlyMoved old new = (new.line ≡ old.line) × (new.answers ≡ old.answers) × (new.holds ≡ old.holds)
+OnlyMoved old new = (new.line ≡ old.line) × (new.before ≡ old.before) × (new.answers ≡ old.answers) × (new.holds ≡ old.holds)
 
 abbrev pub OnlyHeld : Told → Told → Type 0
-OnlyHeld old new = (new.line ≡ old.line) × (new.answers ≡ old.answers) × (new.moves ≡ old.moves)
+OnlyHeld old new = (new.line ≡ old.line) × (new.before ≡ old.before) × (new.answers ≡ old.answers) × (new.moves ≡ old.moves)

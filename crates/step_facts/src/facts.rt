@@ -36,6 +36,7 @@ pub fn add_facts<S: Supply, L: Looks>(
     ensures holds { OnOk result (facts.new.holds ≡ facts.old.holds ++ all_hold_changes step.now.before.now.subchannels.items step.now.after.now.subchannels.items) }
     ensures answers { OnOk result (facts.new.answers ≡ facts.old.answers) }
     ensures line { OnOk result (facts.new.line ≡ facts.old.line) }
+    ensures before { OnOk result (facts.new.before ≡ facts.old.before) }
     ensures unrefused { OnOk result (S.refused supply.new ≡ S.refused supply.old) }
     ensures memory { result ≡ Err fault_spec.NoMemory → S.refused supply.new ≡ true }
 {

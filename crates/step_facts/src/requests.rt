@@ -4,7 +4,7 @@ ghost use Rattle.std.specs.Prelude.{◌≡◌, OnErr, OnOk, true};
 
 use crate::step::{Step, StepFacts};
 use chan_events::event::{Event, Instruction};
-use chan_events::reply::Reply;
+use chan_events::reply::{KeptReply, Reply};
 use chan_model::answer::Answer;
 use channel_config::names::SubchannelId;
 use memory::{Supply, push};
@@ -20,7 +20,7 @@ pub struct Requests {
 
 /// Whether an instruction with this reply drops the request of its subchannel: TEST with code 0 and 1, and CLEAR with code 0
 /// (SA22-7832, chapter 16).
-fn drops(instruction: Instruction, reply: &Reply) -> bool {
+fn drops(instruction: Instruction, reply: &KeptReply) -> bool {
     let (Reply::Code(answer) | Reply::Status { answer, .. }) = reply else {
         return false;
     };
@@ -92,7 +92,7 @@ impl Requests {
         ensures unrefused { OnOk result (S.refused supply.new ≡ S.refused supply.old) }
         ensures memory { OnErr result (S.refused supply.new ≡ true) }
     {
-        match (step.event(), step.reply()) {
+        match (step.event().0, step.reply().0) {
             (Event::SystemReset, _) => self.drop_all(supply, facts)?,
             (Event::Execute { instruction, .. }, reply) if drops(*instruction, reply) => {
                 if let Some(subchannel) = step.subchannel {

@@ -1,24 +1,46 @@
 //! One step of a machine, and the list of its facts.
 
-ghost use Rattle.std.specs.Prelude.{◌≡◌, ◌++◌, ◌∷◌, [], IfOk, IfErr, OnOk, OnErr, true};
+ghost use Rattle.std.specs.Prelude.{◌≡◌, ◌≤◌, ◌++◌, ◌∷◌, [], OnOk, OnErr, length, true};
+ghost use Rattle.chan_events.specs.Events.{event_in, event_length};
+ghost use Rattle.chan_events.specs.Replies.{reply_in, reply_length};
 ghost use Rattle.chan_model.specs.declared.hold_state.HoldState.{HoldState};
 ghost use Rattle.step_records.specs.Named as named;
 ghost use Rattle.step_facts.specs.Told as spec;
+ghost use Rattle.step_facts.specs.Told.{AreToldBy};
 ghost use Rattle.step_records.specs.declared.record.Fact.TheVariants as fact_spec;
 
-use chan_events::event::Event;
-use chan_events::reply::Reply;
+use chan_events::event::{Event, KeptEvent};
+use chan_events::reply::KeptReply;
 use chan_model::fault::Fault;
 use chan_model::hold_state::HoldState;
 use channel_config::parts::PathReturn;
+use event_log::history::LentReply;
 use machine_sight::sight::Sight;
 use machine_sight::waiting::Waiting;
-use memory::{Supply, push};
+use memory::{Supply, ensure_room};
 use script_text::ActionResult;
 use std::alloc::AllocError;
 use std::marker::Model;
 use step_records::parties::Parties;
 use step_records::record::{Fact, Moved, Record, Signal, Wire};
+
+/// An event as it is kept, its bytes lent.
+#[derive(Drop)]
+pub struct LentEvent<'a> {
+    kept: &'a KeptEvent,
+    bytes: &'a [u8],
+}
+
+impl<'a> Model for LentEvent<'a> {
+    ghost use Rattle.std.specs.Prelude.{◌≤◌, length};
+    ghost use Rattle.chan_events.specs.Events.{Event, event_in, event_length};
+
+    ghost Value = { Event };
+
+    ghost view = { λ e. event_in e.kept.now e.bytes.now };
+
+    ghost invariant = { λ e. event_length e.kept.now ≤ length e.bytes.now };
+}
 
 /// An event that was accepted, and what a look showed before it and after it.
 #[derive(Drop)]
@@ -31,31 +53,35 @@ pub struct Step<'a> {
     pub before: &'a Sight,
     /// What waited on the wires before it.
     pub waiting: &'a Waiting,
-    pub event: &'a Event,
-    pub reply: &'a Reply,
+    pub event: &'a LentEvent<'a>,
+    pub reply: &'a LentReply<'a>,
     pub after: &'a Sight,
 }
 
-/// The facts of one step, in order, under the number of its line.
+/// The facts of one step, in order, under the number of its line, behind the records that stood there before.
 #[derive(Drop)]
 pub struct StepFacts {
     line: u64,
+    first: usize,
     records: Vec<Record>,
 }
 
 impl Model for StepFacts {
+    ghost use Rattle.std.specs.Prelude.{◌≤◌, length};
     ghost use Rattle.step_facts.specs.Told.{Told, told_of};
 
     ghost Value = { Told };
 
-    ghost view = { λ f. told_of f.line f.records.items };
+    ghost view = { λ f. told_of f.line f.first f.records.items };
+
+    ghost invariant = { λ f. f.first ≤ length f.records.items };
 }
 
 /// The index of the subchannel that an event names; None where it names none.
-pub fn named_by(parties: &Parties, event: &Event) -> Option<usize>
+pub fn named_by(parties: &Parties, event: &LentEvent<'_>) -> Option<usize>
     ensures { result ≡ named.named_by parties.now event.now }
 {
-    let word = match event {
+    let word = match event.kept {
         Event::Execute { instruction, .. } => instruction.subchannel_word(),
         Event::Choose { subchannel }
         | Event::Up { subchannel, .. }
@@ -65,43 +91,64 @@ pub fn named_by(parties: &Parties, event: &Event) -> Option<usize>
     parties.subchannel_named(word)
 }
 
-impl Step<'_> {
-    /// The event.
-    pub fn event(&self) -> &Event
-        ensures { result.now ≡ self.now.event.now }
+impl<'a> LentEvent<'a> {
+    /// The event with the first of these bytes.
+    pub fn of(kept: &'a KeptEvent, bytes: &'a [u8]) -> Self
+        requires { event_length kept.now ≤ length bytes.now }
+        ensures { result ≡ event_in kept.now bytes.now }
     {
-        self.event
+        LentEvent { kept, bytes }
     }
 
-    /// Its reply.
-    pub fn reply(&self) -> &Reply
-        ensures { result.now ≡ self.now.reply.now }
+    /// What is kept of it, and its bytes, of which there may be more than it has.
+    pub fn parts(&self) -> (&'a KeptEvent, &'a [u8])
+        ensures event { event_in result.0.now result.1.now ≡ self.now }
+        ensures whole { event_length result.0.now ≤ length result.1.now }
     {
-        self.reply
+        (self.kept, self.bytes)
+    }
+}
+
+impl Step<'_> {
+    /// The event: what is kept of it, and its bytes.
+    pub fn event(&self) -> (&KeptEvent, &[u8])
+        ensures event { event_in result.0.now result.1.now ≡ self.now.event.now }
+        ensures whole { event_length result.0.now ≤ length result.1.now }
+    {
+        self.event.parts()
+    }
+
+    /// Its reply: what is kept of it, and its bytes.
+    pub fn reply(&self) -> (&KeptReply, &[u8])
+        ensures reply { reply_in result.0.now result.1.now ≡ self.now.reply.now }
+        ensures whole { reply_length result.0.now ≤ length result.1.now }
+    {
+        self.reply.parts()
     }
 }
 
 impl StepFacts {
-    /// No facts yet, in what room a list has that holds none.
-    pub fn new(line: u64, records: Vec<Record>) -> StepFacts
-        requires { records.items ≡ [] }
-        ensures { result ≡ spec.nothing_told line }
+    /// No facts yet, behind these records.
+    pub fn behind(line: u64, records: Vec<Record>) -> StepFacts
+        ensures { result ≡ spec.nothing_told line records.items }
     {
-        StepFacts { line, records }
+        StepFacts {
+            line,
+            first: records.len(),
+            records,
+        }
     }
 
-    /// The facts as records.
+    /// The records that stood there before, and the facts behind them.
     pub fn into_records(self) -> Vec<Record>
-        ensures { spec.told_of self.line result.items ≡ self }
+        ensures { AreToldBy self result.items }
     {
-        self.records
-    }
-
-    /// The facts as records, lent.
-    pub fn records(&self) -> &[Record]
-        ensures { spec.told_of self.now.line result.now ≡ self.now }
-    {
-        self.records.as_slice()
+        let StepFacts {
+            line: _,
+            first: _,
+            records,
+        } = self;
+        records
     }
 
     /// One fact more.
@@ -112,11 +159,11 @@ impl StepFacts {
         ensures unrefused { OnOk result (S.refused supply.new ≡ S.refused supply.old) }
         ensures memory { OnErr result (S.refused supply.new ≡ true) }
     {
-        let record = Record {
+        ensure_room(supply, &mut self.records, 1)?;
+        self.records.push_reserved(Record {
             line: self.line,
             fact,
-        };
-        push(supply, &mut self.records, record)?;
+        });
         Ok(())
     }
 

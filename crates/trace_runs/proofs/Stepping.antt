@@ -1,5 +1,6 @@
 -- What was told of one action.
-use Rattle.std.proofs.Common.{◌≡◌, ◌∙◌, ◌+◌, ◌-◌, ℕ, suc, Bool, true, false, refl, sym, ap, subst, arith, List, [], ◌∷◌, ◌++◌, append-nil, append_assoc, length}
+use Rattle.std.proofs.Common.{◌≡◌, ◌∙◌, ◌+◌, ◌-◌, ℕ, suc, Bool, true, false, refl, sym, ap, subst, arith, List, [], ◌∷◌, ◌++◌, append-nil, append_assoc, drop, length}
+use Rattle.std.proofs.Math.Seq.{drop-append_seam}
 use Rattle.std.proofs.lemmas.List.{length-append}
 use Rattle.std.proofs.lemmas.Option.{same_Some}
 use Rattle.std.specs.Prelude.{Result, Ok, Err, Option, None, Some, slice_get}
@@ -26,7 +27,10 @@ use Rattle.script_rows.specs.declared.Action.TheVariants as action
 use Rattle.script_runner.specs.Acting.{ActionOutcome, Enters, Follows, Installed, PerformsAction, device_turn_of}
 use Rattle.script_text.specs.Text.{told_of as outcome_told}
 use Rattle.script_text.specs.declared.ActionResult.TheVariants as outcome
-use Rattle.step_facts.specs.Told.{AnsweredLine, answers_of, facts_where, is_hold, is_move, line_record}
+use Rattle.step_facts.specs.Holds.{all_hold_changes}
+use Rattle.step_facts.specs.Moves.{is_told_by_reply, met_of, sent_of}
+use Rattle.step_facts.specs.Told.{AnsweredLine, AreToldBy, Told, answers_of, facts_where, is_hold, is_move, line_record, nothing_told}
+use Rattle.step_records.specs.Named.{named_by}
 use Rattle.step_records.specs.declared.parties.Parties.{Parties}
 use Rattle.step_records.specs.declared.record.Fact.{Fact}
 use Rattle.step_records.specs.declared.record.Fact.TheVariants as fact_spec
@@ -34,7 +38,7 @@ use Rattle.step_records.specs.declared.record.Record.{Record}
 use Rattle.step_records.specs.declared.record.Signal.{Signal}
 use Rattle.step_records.specs.declared.record.Wire.{Wire}
 use Rattle.step_records.specs.declared.refusal.Refusal.{Refusal}
-use Rattle.trace_runs.specs.Tracing.{AreHeldBy, HasReason, HasStepped, HasTold, IsLast, IsMovedBy, IsReason, IsSeen, Traced, answer_record, answered_line, beginning, first_facts, found_where, instructed}
+use Rattle.trace_runs.specs.Tracing.{AreHeldBy, HasReason, HasStepped, HasTold, IsLast, IsLastEvent, IsLastOf, IsMovedBy, IsReason, IsSeen, Traced, answer_record, answered_line, beginning, first_facts, found_where, instructed}
 
 -- a refusal, or a look
 abbrev pub is_quiet : ActionOutcome → Bool
@@ -304,36 +308,71 @@ reply-at (x ∷ y ∷ h) e is =
 same-last : (h : List Entry) (e f : Entry) → IsLast h e → IsLast h f → e ≡ f
 same-last h e f one two = same_Some e f (sym one ∙ two)
 
-moved_last : (h : List Entry) (e : Entry) (parties : Parties) (before : Sight) (facts : List Record) → IsLast h e → IsMovedBy parties before e facts →
-    (entry : Entry) → IsLast h entry → IsMovedBy parties before entry facts
-moved_last h e parties before facts is moved = λ entry also. subst (λ (x : Entry). IsMovedBy parties before x facts) (same-last h e entry is also) moved
+-- the entry of this event and this reply
+abbrev entry-of : Event → Reply → Entry
+entry-of e r = record { event = e; reply = r }
+
+entry-is : (entry : Entry) (e : Event) (r : Reply) → entry.event ≡ e → entry.reply ≡ r → entry-of e r ≡ entry
+entry-is entry e r p q = λ i. record { event = sym p i; reply = sym q i }
+
+-- an event that is that of the last entry
+pub last_lent : (h : List Entry) (entry : Entry) (lent : Event) → IsLast h entry → lent ≡ entry.event → IsLastEvent h lent
+last_lent h entry lent last is = λ other also. ap (λ (y : Entry). y.event) (same-last h other entry also last) ∙ sym is
+
+-- the facts of the last event tell what it moved
+moved_last : (h : List Entry) (e : Event) (r : Reply) (parties : Parties) (before : Sight) (facts : List Record) → IsLastEvent h e → r ≡ last_reply h →
+    IsMovedBy parties before (entry-of e r) facts → (entry : Entry) → IsLast h entry → IsMovedBy parties before entry facts
+moved_last h e r parties before facts own is moved = λ entry last.
+    subst (λ (x : Entry). IsMovedBy parties before x facts) (entry-is entry e r (own entry last) (reply-at h entry last ∙ sym is)) moved
+
+-- what stands behind the first records
+behind-first : (before facts all rest : List Record) (first : ℕ) → all ≡ before ++ facts → first ≡ length before → rest ≡ drop first all → rest ≡ facts
+behind-first before facts all rest first added at is =
+    is ∙ (ap (λ (t : List Record). drop first t) added ∙ (ap (λ n. drop n (before ++ facts)) at ∙ drop-append_seam before facts))
+
+-- what is seen next of a machine that stays
+pub seen_next : (machine : Installed) (parties : Parties) (waits : List WaitingQueues) (one other : Sight) → one ≡ other →
+    (let now : Traced = record { machine = machine; parties = parties; sight = one; waiting = waits } in
+    let then : Traced = record { machine = machine; parties = parties; sight = other; waiting = waits } in now ≡ then)
+seen_next machine parties waits one other is = λ i. record { machine = machine; parties = parties; sight = is i; waiting = waits }
 
 -- the facts were followed on the wires of a machine that stays, and what is seen next is kept
-pub has_told : (old followed new : Traced) (line : ℕ) (before between after list : List Record) (next : Sight) (entry : Entry) →
-    IsLast old.machine.past.history entry → between ≡ before ++ answer_record line (Ok (outcome.Reply entry.reply)) ∷ [] →
-    after ≡ between ++ list → answers_of list ≡ [] →
-    IsMovedBy old.parties old.sight entry list →
-    AreHeldBy old.sight next list → Shows old.machine.past.state old.parties next → IsBalanced old.waiting list followed.waiting →
-    TellsWaiting followed.machine.past.state followed.parties.subchannels.items followed.waiting →
-    followed ≡ record old { waiting = followed.waiting } → new ≡ record followed { sight = next } → HasTold old line before after new
-has_told old followed new line before between after list next entry last answered added answers moves holds shown balanced tells kept is =
-    let stays : followed.machine ≡ old.machine = ap (λ (t : Traced). t.machine) kept in
-    let alike : followed.parties ≡ old.parties = ap (λ (t : Traced). t.parties) kept in
+pub has_told : (old new : Traced) (line : ℕ) (before between after list : List Record) (first : ℕ) (next : Sight) (waits : List WaitingQueues) (e : Event) (r : Reply) (sub : Option ℕ) (start told : Told) →
+    IsLastEvent old.machine.past.history e → r ≡ last_reply old.machine.past.history → between ≡ before ++ answer_record line (Ok (outcome.Reply r)) ∷ [] →
+    first ≡ length between → start ≡ nothing_told line between → AreToldBy told after → told.before ≡ start.before → told.answers ≡ start.answers →
+    sub ≡ named_by old.parties e →
+    ((n : ℕ) → sub ≡ Some n → is_told_by_reply e ≡ true → told.moves ≡ start.moves ++ (met_of n e r ++ sent_of old.sight n r)) →
+    told.holds ≡ start.holds ++ all_hold_changes old.sight.subchannels.items next.subchannels.items →
+    IsBalanced old.waiting list waits → list ≡ drop first after → Shows old.machine.past.state old.parties next →
+    TellsWaiting old.machine.past.state old.parties.subchannels.items waits → new ≡ record old { sight = next; waiting = waits } → HasTold old line before after new
+has_told old new line before between after list first next waits e r sub start told own last answered at none are stood answers names moves holds balanced rest shown tells is =
+    let facts : List Record = are.facts in
+    let behind : after ≡ between ++ facts = are.added ∙ ap (λ (t : List Record). t ++ facts) (stood ∙ ap (λ (t : Told). t.before) none) in
     subst (λ (t : Traced). HasTold old line before after t) (sym is) (record {
-      facts = list;
-      added = added ∙ ap (λ (t : List Record). t ++ list) (answered ∙ ap (λ (r : Reply). before ++ answer_record line (Ok (outcome.Reply r)) ∷ []) (reply-at old.machine.past.history entry last));
-      none_answered = answers;
-      moves = moved_last old.machine.past.history entry old.parties old.sight list last moves;
-      holds = holds;
-      balanced = balanced;
-      machine_stays = stays;
-      parties_stay = alike;
-      seen = record {
-        shown = subst (λ (m : Installed). Shows m.past.state followed.parties next) (sym stays)
-            (subst (λ (p : Parties). Shows old.machine.past.state p next) (sym alike) shown);
-        told = tells;
-      };
+      facts = facts;
+      added = behind ∙ ap (λ (t : List Record). t ++ facts) (answered ∙ ap (λ (x : Reply). before ++ answer_record line (Ok (outcome.Reply x)) ∷ []) last);
+      none_answered = sym (ap (λ (t : Told). t.answers) are.tell) ∙ (answers ∙ ap (λ (t : Told). t.answers) none);
+      moves = moved_last old.machine.past.history e r old.parties old.sight facts own last
+          (λ n named replied. sym (ap (λ (t : Told). t.moves) are.tell) ∙ (moves n (names ∙ named) replied
+          ∙ ap (λ (t : Told). t.moves ++ (met_of n e r ++ sent_of old.sight n r)) none));
+      holds = sym (ap (λ (t : Told). t.holds) are.tell) ∙ (holds
+          ∙ ap (λ (t : Told). t.holds ++ all_hold_changes old.sight.subchannels.items next.subchannels.items) none);
+      balanced = subst (λ (fs : List Record). IsBalanced old.waiting fs waits) (behind-first between facts after list first behind at rest) balanced;
+      machine_stays = refl;
+      parties_stay = refl;
+      seen = record { shown = shown; told = tells };
     })
+
+-- an event that was entered is the last
+entered-last : (old : Past) (e : Event) (came : Result Reply Fault) (new : Past) (r : Reply) → outcome_told came ≡ Ok (outcome.Reply r) → Enters old e came new → IsLastEvent new.history e
+entered-last old e (Ok x) new r is h =
+    λ entry last. ap (λ (y : Entry). y.event) (same-last new.history entry (entry-of e x) last (last_grown old.history new.history (entry-of e x) h.2))
+entered-last old e (Err f) new r is h = absurd (cc is)
+
+pub last_of : (old : Installed) (a : Action) (came : ActionOutcome) (r : Reply) (new : Installed) → came ≡ Ok (outcome.Reply r) → PerformsAction old a came new → IsLastOf a new.past.history
+last_of old (action.Event e) came r new is p = entered-last old.past e p.0 new.past r (sym p.1 ∙ is) p.2.0
+last_of old (action.Dev index) came r new is p = tt
+last_of old (action.Glance word) came r new is p = tt
 
 -- the same where the machine is shown as a value
 pub at_value : (value old new : Traced) (line : ℕ) (before after : List Record) → value ≡ old → HasTold value line before after new → HasTold old line before after new

@@ -1,7 +1,8 @@
 -- What the records of a script tell of its lines.
-use Rattle.std.specs.Prelude.{◌≡◌, ◌-◌, ℕ, true, false, List, [], ◌∷◌, ◌++◌, length, map, slice_get, Ok, Err, Option, None, Some}
+use Rattle.std.specs.Prelude.{◌≡◌, ◌-◌, ⊤, ℕ, true, false, List, [], ◌∷◌, ◌++◌, length, map, slice_get, Ok, Err, Option, None, Some}
 use Rattle.std.specs.List.{flat_map}
 use Rattle.chan_events.specs.Instructions.{subchannel_word}
+use Rattle.chan_events.specs.Events.{Event}
 use Rattle.chan_events.specs.declared.event.Event.TheVariants as event
 use Rattle.chan_events.specs.declared.reply.Entry.{Entry}
 use Rattle.chan_model.specs.declared.fault.Fault.{Fault}
@@ -58,6 +59,15 @@ answered (l ∷ ls) (r ∷ rs) = answered_line l.number r ∷ answered ls rs
 -- the last entry of a history
 abbrev pub IsLast : List Entry → Entry → Type 0
 IsLast entries entry = slice_get entries (length entries - 1) ≡ Some entry
+
+-- this event was accepted last
+abbrev pub IsLastEvent : List Entry → Event → Type 0
+IsLastEvent entries e = (entry : Entry) → IsLast entries entry → entry.event ≡ e
+
+-- the event of an action was accepted last; a turn of a device has none of its own
+abbrev pub IsLastOf : Action → List Entry → Type 0
+IsLastOf (action.Event e) entries = IsLastEvent entries e
+IsLastOf other entries = ⊤
 
 -- the signals are told that the reply of this entry says were met and sent
 abbrev pub IsMovedBy : Parties → Sight → Entry → List Record → Type 0

@@ -7,10 +7,10 @@ ghost use Rattle.step_facts.specs.Told.{line_record};
 ghost use Rattle.step_records.specs.declared.record.Fact.TheVariants as fact_spec;
 ghost use Rattle.trace_runs.specs.Tracing as spec;
 
-use chan_events::reply::Reply;
 use chan_model::fault::Fault;
+use event_log::history::LentReply;
 use machine_sight::sight::Sight;
-use memory::{Supply, make_room, push};
+use memory::{Supply, ensure_room};
 use script_text::ActionResult;
 use scsw_irb::serials::Serials;
 use std::alloc::AllocError;
@@ -27,7 +27,9 @@ pub(crate) fn add_fact<S: Supply>(
     ensures unrefused { OnOk result (S.refused supply.new ≡ S.refused supply.old) }
     ensures memory { OnErr result (S.refused supply.new ≡ true) }
 {
-    push(supply, records, Record { line, fact })
+    ensure_room(supply, records, 1)?;
+    records.push_reserved(Record { line, fact });
+    Ok(())
 }
 
 /// The line itself.
@@ -87,17 +89,17 @@ pub(crate) fn add_beginning<S: Supply>(
 pub(crate) fn add_reply<S: Supply>(
     supply: &mut S,
     line: u64,
-    reply: Reply,
+    reply: &LentReply<'_>,
     records: &mut Vec<Record>,
 ) -> Result<(), AllocError>
-    ensures added { OnOk result (records.new.items ≡ records.old.items ++ spec.answer_record line (Ok (result_spec.Reply reply)) ∷ []) }
+    ensures added { OnOk result (records.new.items ≡ records.old.items ++ spec.answer_record line (Ok (result_spec.Reply reply.now)) ∷ []) }
     ensures unrefused { OnOk result (S.refused supply.new ≡ S.refused supply.old) }
     ensures memory { OnErr result (S.refused supply.new ≡ true) }
 {
     add_fact(
         supply,
         line,
-        Fact::Answer(Ok(ActionResult::Reply(reply))),
+        Fact::Answer(Ok(ActionResult::Reply(reply.own()))),
         records,
     )
 }
@@ -135,20 +137,4 @@ pub(crate) fn add_refusal<S: Supply>(
     ensures memory { OnErr result (S.refused supply.new ≡ true) }
 {
     add_fact(supply, line, Fact::Answer(Err(fault)), records)
-}
-
-/// Moves records behind others.
-pub(crate) fn add_all<S: Supply>(
-    supply: &mut S,
-    list: &mut Vec<Record>,
-    records: &mut Vec<Record>,
-) -> Result<(), AllocError>
-    ensures added { OnOk result (records.new.items ≡ records.old.items ++ list.old.items) }
-    ensures moved { OnOk result (list.new.items ≡ []) }
-    ensures unrefused { OnOk result (S.refused supply.new ≡ S.refused supply.old) }
-    ensures memory { OnErr result (S.refused supply.new ≡ true) }
-{
-    make_room(supply, records, list.len())?;
-    let _ = records.append(list);
-    Ok(())
 }

@@ -1,6 +1,6 @@
 //! A machine whose steps are told: for each action what it came to, and the facts of what it did.
 
-ghost use Rattle.std.specs.Prelude.{◌≡◌, ◌≢◌, ◌≤◌, ◌++◌, ◌∷◌, ℕ, List, [], Ok, Err, IfErr, IfOk, IfSome, IsTrue, ◌↔◌, OnOk, OnErr, length, true};
+ghost use Rattle.std.specs.Prelude.{◌≡◌, ◌≢◌, ◌≤◌, ◌++◌, ◌∷◌, ℕ, List, [], Ok, Err, IfErr, IfOk, IfSome, IsTrue, ◌↔◌, OnOk, OnErr, drop, length, true};
 ghost use Rattle.machine_model.specs.State.{opening_of};
 ghost use Rattle.subsystem.specs.Keeping.{all_serials};
 ghost use Rattle.core_lock.specs.Directory.{directory_of};
@@ -9,14 +9,13 @@ ghost use Rattle.script_runner.specs.Acting.{IsAudited, IsOpening};
 ghost use Rattle.chan_model.specs.declared.fault.Fault.TheVariants as refusal_spec;
 ghost use Rattle.machine_sight.specs.Balance.{IsBalanced};
 ghost use Rattle.machine_sight.specs.Shown.{Shows, TellsWaiting};
-ghost use Rattle.step_facts.specs.Told.{answers_of};
 ghost use Rattle.trace_runs.specs.Faults.{IsFaultAt, fault_told};
 ghost use Rattle.trace_runs.specs.Tracing as spec;
-ghost use Rattle.trace_runs.specs.Tracing.{AreHeldBy, AreOf, HasReason, HasStepped, HasTold, IsLast, IsMovedBy, IsSeen};
+ghost use Rattle.trace_runs.specs.Tracing.{AreOf, HasReason, HasStepped, HasTold, IsLast, IsLastEvent, IsLastOf, IsSeen};
 ghost use Rattle.trace_runs.specs.declared.tracer.Stepped.TheVariants as stepped_spec;
 
 use crate::TraceFault;
-use crate::adding::{add_all, add_beginning, add_fact, add_looked, add_refusal, add_reply};
+use crate::adding::{add_beginning, add_fact, add_looked, add_refusal, add_reply};
 use chan_events::event::Event;
 use chan_events::reply::Entry;
 use chan_model::fault::Fault;
@@ -40,7 +39,7 @@ use std::marker::Model;
 use std::mem;
 use step_facts::facts::add_facts;
 use step_facts::requests::Requests;
-use step_facts::step::{Step, StepFacts, named_by};
+use step_facts::step::{LentEvent, Step, StepFacts, named_by};
 use step_records::parties::Parties as Participants;
 use step_records::record::{Fact, Record};
 use subsystem::subsystem::Subsystem;
@@ -69,8 +68,6 @@ pub struct Tracer<J: MachineBrand> {
     waiting: Waiting,
     /// Room for the look after a step.
     next: Sight,
-    /// Room for the facts of a step.
-    list: Vec<Record>,
 }
 
 impl<J: MachineBrand> Model for Tracer<J> {
@@ -112,6 +109,29 @@ fn instructed(parties: &Participants, action: &KeptAction) -> Option<usize>
         }
         _ => None,
     }
+}
+
+/// Follows the facts of a step on the wires, which stand in a list from this index on, and answers whether that could be and what
+/// waits then is what waits at the machine.
+#[inline(never)]
+fn follow<S: Supply, L: Looks>(
+    supply: &mut S,
+    waiting: &mut Waiting,
+    records: &[Record],
+    first: usize,
+    looks: &L,
+    parties: &Participants,
+) -> Result<bool, AllocError>
+    requires { first ≤ length records.now }
+    ensures balanced { IfOk result (λ followed. IsTrue followed → IsBalanced waiting.old (drop first records.now) waiting.new) }
+    ensures told { IfOk result (λ followed. IsTrue followed → TellsWaiting (L.state looks.now) parties.now.subchannels.items waiting.new) }
+    ensures unrefused { OnOk result (S.refused supply.new ≡ S.refused supply.old) }
+    ensures memory { OnErr result (S.refused supply.new ≡ true) }
+{
+    if !waiting.follow(supply, &records[first..])? {
+        return Ok(false);
+    }
+    Ok(waiting.tells(looks, parties))
 }
 
 /// What is seen of a machine at which nothing waits.
@@ -180,7 +200,6 @@ impl<J: MachineBrand> Tracer<J> {
                 sight: seen.sight,
                 waiting: seen.waiting,
                 next: Sight::none(alloc),
-                list: Vec::new(alloc),
             }),
             Err(fault) => Err(fault),
         }
@@ -230,7 +249,6 @@ impl<J: MachineBrand> Tracer<J> {
             sight: _,
             waiting: _,
             next: _,
-            list: _,
         } = self;
         (parties, machine.audited())
     }
@@ -255,7 +273,7 @@ impl<J: MachineBrand> Tracer<J> {
         add_beginning(supply, line, &self.sight, named, records)?;
         match self.machine.act(supply, action, bytes, &mut self.buffers) {
             Ok(Acted::Replied) => {
-                self.tell(supply, line, records)?;
+                self.tell_action(supply, line, action, bytes, records)?;
                 Ok(Stepped::Accepted)
             }
             Ok(Acted::Looked(found)) => {
@@ -289,19 +307,32 @@ impl<J: MachineBrand> Tracer<J> {
         add_fact(supply, line, Fact::Refused(refusal), records)
     }
 
-    /// The room for the facts of a step, emptied.
-    fn take_list(&mut self) -> Vec<Record>
-        ensures none { result.items ≡ [] }
-        ensures kept { self.new ≡ self.old }
+    /// Adds what the event of an action that was accepted last came to, and its facts.
+    fn tell_action<S: Supply>(
+        &mut self,
+        supply: &mut S,
+        line: u64,
+        action: &KeptAction,
+        bytes: &[u8],
+        records: &mut Vec<Record>,
+    ) -> Result<(), TraceFault>
+        requires bytes { action_length action.now ≤ length bytes.now }
+        requires last { IsLastOf (action_in action.now bytes.now) self.old.machine.past.history }
+        ensures told { OnOk result (HasTold self.old line records.old.items records.new.items self.new) }
+        ensures unrefused { OnOk result (S.refused supply.new ≡ S.refused supply.old) }
+        ensures fault { IfErr result (λ fault. IsFaultAt line (S.refused supply.new) fault) }
     {
-        let mut list = mem::replace(&mut self.list, Vec::new(self.alloc));
-        list.clear();
-        list
+        match action {
+            KeptAction::Event(event) => {
+                self.tell(supply, line, &LentEvent::of(event, bytes), records)
+            }
+            _ => self.tell_last(supply, line, records),
+        }
     }
 
-    /// Adds the reply of the event that was accepted last and the facts of the event, which account for all that moved.
-    #[tactic(auto, using(crate::proofs::Faulting::want_at, crate::proofs::Faulting::sight_at))]
-    fn tell<S: Supply>(
+    /// The same of the event that was accepted last.
+    #[inline(never)]
+    fn tell_last<S: Supply>(
         &mut self,
         supply: &mut S,
         line: u64,
@@ -311,69 +342,65 @@ impl<J: MachineBrand> Tracer<J> {
         ensures unrefused { OnOk result (S.refused supply.new ≡ S.refused supply.old) }
         ensures fault { IfErr result (λ fault. IsFaultAt line (S.refused supply.new) fault) }
     {
-        let mut next = mem::replace(&mut self.next, Sight::none(self.alloc));
-        if let Err(fault) = next.look(supply, self.machine.subsystem(), &self.parties) {
-            return Err(fault_of(fault, line));
+        match &last_entry(self.machine.subsystem()) {
+            Some(entry) => {
+                let kept = entry.event.keep();
+                let event = LentEvent::of(&kept, entry.event.bytes());
+                self.tell(supply, line, &event, records)
+            }
+            None => Err(TraceFault::Unbalanced(line)),
         }
-        let Some(entry) = last_entry(self.machine.subsystem()) else {
-            return Err(TraceFault::Unbalanced(line));
-        };
-        let mut list = self.facts_to(supply, line, &entry, &next)?;
-        if !self.follow(supply, list.as_slice())? || self.requests.subclasses() != next.requested {
-            return Err(TraceFault::Unbalanced(line));
-        }
-        self.next = mem::replace(&mut self.sight, next);
-        add_reply(supply, line, entry.reply, records)?;
-        add_all(supply, &mut list, records)?;
-        self.list = list;
-        Ok(())
     }
 
-    /// Follows the facts of a step on the wires, and answers whether that could be and what waits then is what waits at the machine.
-    fn follow<S: Supply>(&mut self, supply: &mut S, list: &[Record]) -> Result<bool, AllocError>
-        ensures balanced { IfOk result (λ followed. IsTrue followed → IsBalanced self.old.waiting list.now self.new.waiting) }
-        ensures told { IfOk result (λ followed. IsTrue followed → TellsWaiting self.new.machine.past.state self.new.parties.subchannels.items self.new.waiting) }
-        ensures kept { self.new ≡ record self.old { waiting = self.new.waiting } }
-        ensures unrefused { OnOk result (S.refused supply.new ≡ S.refused supply.old) }
-        ensures memory { OnErr result (S.refused supply.new ≡ true) }
-    {
-        if !self.waiting.follow(supply, list)? {
-            return Ok(false);
-        }
-        Ok(self.waiting.tells(self.machine.subsystem(), &self.parties))
-    }
-
-    /// The facts of the event of this entry, where a look now shows this.
+    /// Adds the reply of the event that was accepted last and the facts of the event, which account for all that moved.
+    #[inline(never)]
     #[tactic(auto, using(crate::proofs::Faulting::want_at, crate::proofs::Faulting::sight_at))]
-    fn facts_to<S: Supply>(
+    fn tell<S: Supply>(
         &mut self,
         supply: &mut S,
         line: u64,
-        entry: &Entry,
-        after: &Sight,
-    ) -> Result<Vec<Record>, TraceFault>
-        ensures answers { IfOk result (λ list. answers_of list.items ≡ []) }
-        ensures moves { IfOk result (λ list. IsMovedBy self.old.parties self.old.sight entry.now list.items) }
-        ensures holds { IfOk result (λ list. AreHeldBy self.old.sight after.now list.items) }
-        ensures kept { self.new ≡ self.old }
+        event: &LentEvent<'_>,
+        records: &mut Vec<Record>,
+    ) -> Result<(), TraceFault>
+        requires last { IsLastEvent self.old.machine.past.history event.now }
+        ensures told { OnOk result (HasTold self.old line records.old.items records.new.items self.new) }
         ensures unrefused { OnOk result (S.refused supply.new ≡ S.refused supply.old) }
         ensures fault { IfErr result (λ fault. IsFaultAt line (S.refused supply.new) fault) }
     {
-        let mut facts = StepFacts::new(line, self.take_list());
+        if let Err(fault) = self
+            .next
+            .look(supply, self.machine.subsystem(), &self.parties)
+        {
+            return Err(fault_of(fault, line));
+        }
+        let Some(reply) = self.machine.last_reply() else {
+            return Err(TraceFault::Unbalanced(line));
+        };
+        add_reply(supply, line, &reply, records)?;
+        let first = records.len();
+        let mut facts = StepFacts::behind(line, mem::replace(records, Vec::new(self.alloc)));
         let step = Step {
             parties: &self.parties,
             path_return: self.path_return,
-            subchannel: named_by(&self.parties, &entry.event),
+            subchannel: named_by(&self.parties, event),
             before: &self.sight,
             waiting: &self.waiting,
-            event: &entry.event,
-            reply: &entry.reply,
-            after,
+            event,
+            reply: &reply,
+            after: &self.next,
         };
         let looks = self.machine.subsystem();
-        match add_facts(supply, &step, looks, &mut self.requests, &mut facts) {
-            Ok(()) => Ok(facts.into_records()),
-            Err(fault) => Err(fault_of(fault, line)),
+        let added = add_facts(supply, &step, looks, &mut self.requests, &mut facts);
+        *records = facts.into_records();
+        if let Err(fault) = added {
+            return Err(fault_of(fault, line));
         }
+        let told = records.as_slice();
+        let followed = follow(supply, &mut self.waiting, told, first, looks, &self.parties)?;
+        if !followed || self.requests.subclasses() != self.next.requested {
+            return Err(TraceFault::Unbalanced(line));
+        }
+        mem::swap(&mut self.sight, &mut self.next);
+        Ok(())
     }
 }

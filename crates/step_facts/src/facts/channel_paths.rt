@@ -3,7 +3,7 @@
 ghost use Rattle.std.specs.Prelude.{◌≡◌, OnErr, OnOk, true};
 
 use crate::step::{Step, StepFacts};
-use chan_events::event::Event;
+use chan_events::event::{Event, KeptEvent};
 use chan_events::reply::Reply;
 use channel_config::parts::PathReturn;
 use memory::Supply;
@@ -51,7 +51,7 @@ fn push_path<S: Supply>(
 }
 
 /// What the event reports of which channel path.
-fn reported(event: &Event, path_return: PathReturn) -> Option<(PathReport, u32)> {
+fn reported(event: &KeptEvent, path_return: PathReturn) -> Option<(PathReport, u32)> {
     match event {
         Event::PathDown { chpid } => Some((PathReport::Lost, *chpid)),
         Event::PathUp { chpid } => Some((path_return.report(), *chpid)),
@@ -70,10 +70,10 @@ pub(crate) fn add_reports<S: Supply>(
     ensures unrefused { OnOk result (S.refused supply.new ≡ S.refused supply.old) }
     ensures memory { OnErr result (S.refused supply.new ≡ true) }
 {
-    if let Reply::ChannelReport(Some(crw)) = step.reply() {
+    if let Reply::ChannelReport(Some(crw)) = step.reply().0 {
         return push_report(supply, ReportChange::TakenOut, *crw, facts);
     }
-    let Some((report, chpid)) = reported(step.event(), step.path_return) else {
+    let Some((report, chpid)) = reported(step.event().0, step.path_return) else {
         return Ok(());
     };
     let change = if step.before.reports < step.after.reports {

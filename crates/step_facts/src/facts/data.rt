@@ -1,12 +1,12 @@
 //! The blocks of a program that took control, and the bytes that moved between storage and the wires.
 
-ghost use Rattle.std.specs.Prelude.{◌≡◌, ◌≤◌, length, OnErr, OnOk, true};
+ghost use Rattle.std.specs.Prelude.{◌≡◌, ◌≤◌, length, IfSome, OnErr, OnOk, true};
 
 use crate::step::{Step, StepFacts};
 use ccw_codec::Format;
 use ccw_walk::program::Latest;
 use chan_events::reply::Reply;
-use chan_model::chunk::Chunk;
+use chan_model::chunk::{Bytes, Chunk};
 use chan_model::signal::{Down, Load, Up};
 use data_move::transfer::Transfer;
 use functions::state::PackedState;
@@ -43,13 +43,16 @@ fn at_work<'a>(step: &Step<'a>) -> Option<AtWork<'a>> {
 }
 
 /// What a signal brought that was taken: how many bytes of a write were absorbed, or the bytes of a read.
-fn brought<'a>(step: &'a Step<'_>) -> Option<&'a Load> {
+fn brought<'a>(step: &'a Step<'_>) -> Option<Load<Bytes<'a>>> {
     match step.reply() {
-        Reply::Up {
-            signal: Up::Data { load, .. },
-            taken: true,
-            ..
-        } => Some(load),
+        (
+            Reply::Up {
+                signal: Up::Data { load, .. },
+                taken: true,
+                ..
+            },
+            bytes,
+        ) => Some(load.lend(bytes)),
         _ => None,
     }
 }
@@ -235,16 +238,45 @@ fn is_same_block(step: &Step<'_>, work: &AtWork<'_>) -> bool {
     }
 }
 
+/// How many bytes a load stands for.
+fn moved_by(load: &Load<Bytes<'_>>) -> usize {
+    match load {
+        Load::Absorbed(count) => usize::from(*count),
+        Load::Bytes(bytes) => bytes.as_slice().len(),
+    }
+}
+
 fn is_moved_on(step: &Step<'_>, work: &AtWork<'_>, before: &Transfer, after: &Transfer) -> bool {
     let left = before.moving.residual();
     let moved = match brought(step) {
         Some(load) if is_new_chunk(work) && before.fault.is_none() => {
-            load.len().min(usize::from(before.moving.room())) as u16
+            moved_by(&load).min(usize::from(before.moving.room())) as u16
         }
         _ => 0,
     };
     after.moving.residual() == left - moved.min(left)
         || after.fault.is_some() && after.moving.residual() == left
+}
+
+/// The bytes of a write that were sent to the unit; None where none were.
+fn given<'a>(step: &'a Step<'_>) -> Option<&'a [u8]>
+    ensures { IfSome result (λ bytes. length bytes.now ≤ 256) }
+{
+    let (
+        Reply::Up {
+            signal,
+            sent: Some(on),
+            ..
+        },
+        bytes,
+    ) = step.reply()
+    else {
+        return None;
+    };
+    match on.signal {
+        Down::Give { .. } => Some(on.signal.lend(&bytes[signal.length()..]).bytes()),
+        _ => None,
+    }
 }
 
 /// The bytes of a write that were fetched, and given.
@@ -258,18 +290,15 @@ fn add_fetched<S: Supply>(
     ensures unrefused { OnOk result (S.refused supply.new ≡ S.refused supply.old) }
     ensures memory { OnErr result (S.refused supply.new ≡ true) }
 {
-    let (Reply::Up { sent: Some(on), .. }, Some(after)) = (step.reply(), work.after) else {
-        return Ok(());
-    };
-    let Down::Give { bytes, .. } = &on.signal else {
+    let (Some(bytes), Some(after)) = (given(step), work.after) else {
         return Ok(());
     };
     match after.transfer.moving.place() {
-        Some(address) if bytes.len() != 0 => push_copy(
+        Some(address) if !bytes.is_empty() => push_copy(
             supply,
             work.subchannel,
             Direction::Fetched,
-            (address, bytes.as_slice()),
+            (address, bytes),
             facts,
         ),
         _ => Ok(()),

@@ -1,12 +1,13 @@
 //! What was lost on the wires.
 
-ghost use Rattle.std.specs.Prelude.{◌≡◌, false, true, OnErr, OnOk};
+ghost use Rattle.std.specs.Prelude.{◌≡◌, ℕ, List, false, true, OnErr, OnOk};
+ghost use Rattle.chan_events.specs.Events.{event_in};
 ghost use Rattle.step_facts.specs.Moves as spec;
 ghost use Rattle.step_facts.specs.Told.{OnlyMoved};
 
 use crate::facts::moves::{WIRE_ROOM, wire_of};
 use crate::step::{Step, StepFacts};
-use chan_events::event::Event;
+use chan_events::event::{Event, KeptEvent};
 use chan_model::names::Path;
 use machine::looks::Looks;
 use machine_sight::waiting::is_past;
@@ -17,8 +18,8 @@ use step_records::record::{Moved, Way, Wire};
 use wires::Wires;
 
 /// Whether an event may lose what waits on wires: a path goes down or is reset, or the subsystem is.
-fn loses(event: &Event) -> bool
-    ensures { spec.is_told_by_reply event.now ≡ true → result ≡ false }
+fn loses(event: &KeptEvent) -> bool
+    ensures { (bytes : List ℕ) → spec.is_told_by_reply (event_in event.now bytes) ≡ true → result ≡ false }
 {
     matches!(
         event,
@@ -38,7 +39,7 @@ pub(crate) fn add_lost<S: Supply, L: Looks>(
     ensures unrefused { OnOk result (S.refused supply.new ≡ S.refused supply.old) }
     ensures memory { OnErr result (S.refused supply.new ≡ true) }
 {
-    if loses(step.event()) {
+    if loses(step.event().0) {
         add_all_lost(supply, step, looks, facts)
     } else {
         Ok(())

@@ -2,6 +2,7 @@
 
 ghost use Rattle.machine_sight.specs.declared.looking.SightFault.TheVariants as fault_spec;
 ghost use Rattle.std.specs.Prelude.{◌≡◌, ◌≢◌, ◌++◌, ◌∷◌, [], ℕ, Some, IfOk, OnOk, false, true, OnErr, Err};
+ghost use Rattle.chan_model.specs.Lent.{lent_down, lent_up};
 ghost use Rattle.chan_model.specs.declared.signal.Down.TheVariants as down_spec;
 ghost use Rattle.step_facts.specs.Moves as spec;
 ghost use Rattle.step_facts.specs.Told.{OnlyMoved, with_moves};
@@ -11,8 +12,9 @@ ghost use Rattle.step_records.specs.declared.record.Signal.TheVariants as signal
 use crate::step::{Step, StepFacts};
 use chan_events::event::Event;
 use chan_events::reply::Reply;
+use chan_model::lent::{LentDown, LentUp, PlainDown};
 use chan_model::names::Path;
-use chan_model::signal::{Down, OnPath, Up};
+use chan_model::signal::Down;
 use machine::looks::Looks;
 use machine_sight::looking::SightFault;
 use machine_sight::waiting::{is_past, signal_at};
@@ -66,15 +68,15 @@ fn push_down<S: Supply>(
     supply: &mut S,
     wire: Wire,
     moved: Moved,
-    signal: &Down,
+    signal: &LentDown<'_>,
     facts: &mut StepFacts,
 ) -> Result<(), AllocError>
-    ensures told { OnOk result (facts.new ≡ with_moves facts.old (fact_spec.Signal wire moved (signal_spec.Down signal.now) ∷ [])) }
+    ensures told { OnOk result (facts.new ≡ with_moves facts.old (fact_spec.Signal wire moved (signal_spec.Down (lent_down signal.now)) ∷ [])) }
     ensures only { OnlyMoved facts.old facts.new }
     ensures unrefused { OnOk result (S.refused supply.new ≡ S.refused supply.old) }
     ensures memory { OnErr result (S.refused supply.new ≡ true) }
 {
-    facts.push_signal(supply, wire, moved, Signal::Down(signal.copy()))
+    facts.push_signal(supply, wire, moved, Signal::Down(signal.own()))
 }
 
 /// A signal up that moved.
@@ -83,15 +85,15 @@ fn push_up<S: Supply>(
     supply: &mut S,
     wire: Wire,
     moved: Moved,
-    signal: &Up,
+    signal: &LentUp<'_>,
     facts: &mut StepFacts,
 ) -> Result<(), AllocError>
-    ensures told { OnOk result (facts.new ≡ with_moves facts.old (fact_spec.Signal wire moved (signal_spec.Up signal.now) ∷ [])) }
+    ensures told { OnOk result (facts.new ≡ with_moves facts.old (fact_spec.Signal wire moved (signal_spec.Up (lent_up signal.now)) ∷ [])) }
     ensures only { OnlyMoved facts.old facts.new }
     ensures unrefused { OnOk result (S.refused supply.new ≡ S.refused supply.old) }
     ensures memory { OnErr result (S.refused supply.new ≡ true) }
 {
-    facts.push_signal(supply, wire, moved, Signal::Up(signal.copy()))
+    facts.push_signal(supply, wire, moved, Signal::Up(signal.own()))
 }
 
 /// The signal that was met at its end of the wire that the event names.
@@ -107,18 +109,18 @@ pub(crate) fn add_met<S: Supply>(
     ensures memory { result ≡ Err fault_spec.NoMemory → S.refused supply.new ≡ true }
 {
     match step.event() {
-        Event::Up { path, .. } => match step.reply() {
-            Reply::Up { signal, taken, .. } => {
+        (Event::Up { path, .. }, _) => match step.reply() {
+            (Reply::Up { signal, taken, .. }, bytes) => {
                 let wire = wire_at(step.subchannel, *path, Way::Up)?;
-                push_up(supply, wire, met_as(*taken), signal, facts)?;
+                push_up(supply, wire, met_as(*taken), &signal.lend(bytes), facts)?;
                 Ok(())
             }
             _ => Ok(()),
         },
-        Event::Down { path, .. } => match step.reply() {
-            Reply::Down { signal, taken, .. } => {
+        (Event::Down { path, .. }, _) => match step.reply() {
+            (Reply::Down { signal, taken, .. }, bytes) => {
                 let wire = wire_at(step.subchannel, *path, Way::Down)?;
-                push_down(supply, wire, met_as(*taken), signal, facts)?;
+                push_down(supply, wire, met_as(*taken), &signal.lend(bytes), facts)?;
                 Ok(())
             }
             _ => Ok(()),
@@ -153,11 +155,11 @@ pub(crate) fn add_sent<S: Supply, L: Looks>(
     ensures memory { result ≡ Err fault_spec.NoMemory → S.refused supply.new ≡ true }
 {
     match step.event() {
-        Event::Report { unit, .. } | Event::Act { unit, .. } => {
+        (Event::Report { unit, .. } | Event::Act { unit, .. }, _) => {
             add_new(supply, step, looks, *unit as usize, facts)?;
             Ok(())
         }
-        Event::Choose { .. } | Event::Up { .. } | Event::Down { .. } => match step.subchannel {
+        (Event::Choose { .. } | Event::Up { .. } | Event::Down { .. }, _) => match step.subchannel {
             Some(subchannel) => {
                 add_replied(supply, step, subchannel, facts)?;
                 Ok(())
@@ -182,17 +184,37 @@ fn add_replied<S: Supply>(
     ensures memory { OnErr result (S.refused supply.new ≡ true) }
 {
     match step.reply() {
-        Reply::Offered { number, path, .. } => {
+        (Reply::Offered { number, path, .. }, _) => {
             send_select(supply, step, subchannel, *number, *path, facts)
         }
-        Reply::ResetSent { number, path } => {
+        (Reply::ResetSent { number, path }, _) => {
             send_reset(supply, step, subchannel, *number, *path, facts)
         }
-        Reply::HaltSent { number, path } => {
+        (Reply::HaltSent { number, path }, _) => {
             send_halt(supply, step, subchannel, *number, *path, facts)
         }
-        Reply::Up { sent: Some(on), .. } => send_down(supply, step, subchannel, on, facts),
-        Reply::Down { sent: Some(on), .. } => send_up(supply, step, subchannel, on, facts),
+        (
+            Reply::Up {
+                signal,
+                sent: Some(on),
+                ..
+            },
+            bytes,
+        ) => {
+            let sent = on.signal.lend(&bytes[signal.length()..]);
+            send_down(supply, step, subchannel, on.path, &sent, facts)
+        }
+        (
+            Reply::Down {
+                signal,
+                sent: Some(on),
+                ..
+            },
+            bytes,
+        ) => {
+            let sent = on.signal.lend(&bytes[signal.length()..]);
+            send_up(supply, step, subchannel, on.path, &sent, facts)
+        }
         _ => Ok(()),
     }
 }
@@ -212,8 +234,8 @@ fn send_select<S: Supply>(
     ensures unrefused { OnOk result (S.refused supply.new ≡ S.refused supply.old) }
     ensures memory { OnErr result (S.refused supply.new ≡ true) }
 {
-    let signal = Down::Select { number };
-    send_down(supply, step, subchannel, &OnPath { path, signal }, facts)
+    let signal = PlainDown::of(Down::Select { number });
+    send_down(supply, step, subchannel, path, &signal.lend(), facts)
 }
 
 /// A Reset.
@@ -232,8 +254,8 @@ fn send_reset<S: Supply>(
     ensures memory { OnErr result (S.refused supply.new ≡ true) }
 {
     let restarts = known_restarts(step, subchannel);
-    let signal = Down::Reset { number, restarts };
-    send_down(supply, step, subchannel, &OnPath { path, signal }, facts)
+    let signal = PlainDown::of(Down::Reset { number, restarts });
+    send_down(supply, step, subchannel, path, &signal.lend(), facts)
 }
 
 /// A Halt.
@@ -251,8 +273,8 @@ fn send_halt<S: Supply>(
     ensures unrefused { OnOk result (S.refused supply.new ≡ S.refused supply.old) }
     ensures memory { OnErr result (S.refused supply.new ≡ true) }
 {
-    let signal = Down::Halt { number };
-    send_down(supply, step, subchannel, &OnPath { path, signal }, facts)
+    let signal = PlainDown::of(Down::Halt { number });
+    send_down(supply, step, subchannel, path, &signal.lend(), facts)
 }
 
 /// A signal that was sent down.
@@ -260,17 +282,18 @@ fn send_down<S: Supply>(
     supply: &mut S,
     step: &Step<'_>,
     subchannel: usize,
-    on: &OnPath<Down>,
+    path: Path,
+    signal: &LentDown<'_>,
     facts: &mut StepFacts,
 ) -> Result<(), AllocError>
-    ensures told { OnOk result (facts.new ≡ with_moves facts.old (spec.sent_down step.now.before.now subchannel on.now.path on.now.signal)) }
+    ensures told { OnOk result (facts.new ≡ with_moves facts.old (spec.sent_down step.now.before.now subchannel path (lent_down signal.now))) }
     ensures only { OnlyMoved facts.old facts.new }
     ensures unrefused { OnOk result (S.refused supply.new ≡ S.refused supply.old) }
     ensures memory { OnErr result (S.refused supply.new ≡ true) }
 {
-    let moved = sent_as(step.before.is_available(subchannel, on.path));
-    let wire = wire_of(subchannel, on.path, Way::Down);
-    push_down(supply, wire, moved, &on.signal, facts)
+    let moved = sent_as(step.before.is_available(subchannel, path));
+    let wire = wire_of(subchannel, path, Way::Down);
+    push_down(supply, wire, moved, signal, facts)
 }
 
 /// A signal that was sent up.
@@ -278,17 +301,18 @@ fn send_up<S: Supply>(
     supply: &mut S,
     step: &Step<'_>,
     subchannel: usize,
-    on: &OnPath<Up>,
+    path: Path,
+    signal: &LentUp<'_>,
     facts: &mut StepFacts,
 ) -> Result<(), AllocError>
-    ensures told { OnOk result (facts.new ≡ with_moves facts.old (spec.sent_up step.now.before.now subchannel on.now.path on.now.signal)) }
+    ensures told { OnOk result (facts.new ≡ with_moves facts.old (spec.sent_up step.now.before.now subchannel path (lent_up signal.now))) }
     ensures only { OnlyMoved facts.old facts.new }
     ensures unrefused { OnOk result (S.refused supply.new ≡ S.refused supply.old) }
     ensures memory { OnErr result (S.refused supply.new ≡ true) }
 {
-    let moved = sent_as(step.before.is_available(subchannel, on.path));
-    let wire = wire_of(subchannel, on.path, Way::Up);
-    push_up(supply, wire, moved, &on.signal, facts)
+    let moved = sent_as(step.before.is_available(subchannel, path));
+    let wire = wire_of(subchannel, path, Way::Up);
+    push_up(supply, wire, moved, signal, facts)
 }
 
 /// The restart count of its unit that a subchannel knew before.

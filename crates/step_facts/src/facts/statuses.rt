@@ -3,8 +3,8 @@
 ghost use Rattle.std.specs.Prelude.{◌≡◌, OnErr, OnOk, true};
 
 use crate::step::{Step, StepFacts};
-use chan_events::event::Event;
-use chan_events::reply::Reply;
+use chan_events::event::{Event, KeptEvent};
+use chan_events::reply::{KeptReply, Reply};
 use chan_model::signal::Up;
 use functions::state::PackedState;
 use memory::Supply;
@@ -13,7 +13,7 @@ use step_records::record::{Cause, Fact};
 use zbits::{field, flag};
 
 /// What made status pending, as the event, the signal that was met and the status word tell it (SA22-7832, chapter 16).
-pub fn cause_of(event: &Event, reply: &Reply, words: &[u32; 3]) -> Cause {
+fn cause_of(event: &KeptEvent, reply: &KeptReply, words: &[u32; 3]) -> Cause {
     match (event, reply) {
         (Event::Choose { .. }, _) => chosen_cause(words),
         (
@@ -96,7 +96,7 @@ fn push_made<S: Supply>(
             subchannel,
             words,
             serial: after.rest().serials.made,
-            cause: cause_of(step.event(), step.reply(), &words),
+            cause: cause_of(step.event().0, step.reply().0, &words),
         },
     )
 }

@@ -1,11 +1,12 @@
 //! How units changed, and what their devices did.
 
-ghost use Rattle.std.specs.Prelude.{◌≡◌, OnErr, OnOk, true};
+ghost use Rattle.std.specs.Prelude.{◌≡◌, ◌≤◌, OnErr, OnOk, length, true};
+ghost use Rattle.chan_model.specs.Reports.{answer_length};
 
 use crate::step::{Step, StepFacts};
 use chan_events::event::Event;
 use chan_events::reply::Reply;
-use chan_model::chunk::Chunk;
+use chan_model::chunk::{Chunk, ChunkLength};
 use chan_model::report::DeviceAnswer;
 use chan_model::signal::Down;
 use chan_model::unit_state::{Connection, CurrentCommand, Own, Progress, UnitState};
@@ -171,7 +172,7 @@ fn add_attention<S: Supply>(
             ..
         },
         Some(subchannel),
-    ) = (step.reply(), step.subchannel)
+    ) = (step.reply().0, step.subchannel)
     else {
         return Ok(());
     };
@@ -240,10 +241,12 @@ pub(crate) fn add_first_acts<S: Supply>(
     ensures memory { OnErr result (S.refused supply.new ≡ true) }
 {
     match step.event() {
-        Event::Report { unit, report } => {
-            add_first_act(supply, step, *unit as usize, &report.answer, facts)
+        (Event::Report { unit, report }, bytes) => {
+            add_first_act(supply, step, *unit as usize, (&report.answer, bytes), facts)
         }
-        Event::Restart { unit } => { push_act(supply, *unit as usize, DeviceAct::Restarted, facts) }
+        (Event::Restart { unit }, _) => {
+            push_act(supply, *unit as usize, DeviceAct::Restarted, facts)
+        }
         _ => Ok(()),
     }
 }
@@ -269,9 +272,10 @@ fn add_first_act<S: Supply>(
     supply: &mut S,
     step: &Step<'_>,
     unit: usize,
-    answer: &DeviceAnswer,
+    answer: (&DeviceAnswer<ChunkLength>, &[u8]),
     facts: &mut StepFacts,
 ) -> Result<(), AllocError>
+    requires { answer_length answer.0.now ≤ length answer.1.now }
     ensures kept { facts.new ≡ facts.old }
     ensures unrefused { OnOk result (S.refused supply.new ≡ S.refused supply.old) }
     ensures memory { OnErr result (S.refused supply.new ≡ true) }
@@ -282,12 +286,18 @@ fn add_first_act<S: Supply>(
     }
 }
 
-fn first_act(step: &Step<'_>, unit: usize, answer: &DeviceAnswer) -> Option<DeviceAct> {
-    match answer {
+fn first_act(
+    step: &Step<'_>,
+    unit: usize,
+    answer: (&DeviceAnswer<ChunkLength>, &[u8]),
+) -> Option<DeviceAct>
+    requires { answer_length answer.0.now ≤ length answer.1.now }
+{
+    match answer.0 {
         DeviceAnswer::Begins if asks(step, unit) => None,
         DeviceAnswer::Begins => Some(DeviceAct::Nothing),
         DeviceAnswer::Absorbed(count) => Some(DeviceAct::Absorbed(absorbed(step, unit, *count))),
-        DeviceAnswer::Supplied(bytes) => Some(DeviceAct::Gave(bytes.copy())),
+        DeviceAnswer::Supplied(count) => Some(DeviceAct::Gave(Chunk::first(*count, answer.1))),
         DeviceAnswer::Again => Some(DeviceAct::Again),
         DeviceAnswer::Ended { .. } => None,
     }
@@ -304,7 +314,7 @@ pub(crate) fn add_last_acts<S: Supply>(
     ensures memory { OnErr result (S.refused supply.new ≡ true) }
 {
     match step.event() {
-        Event::Report { unit, report } => {
+        (Event::Report { unit, report }, _) => {
             add_last_act(supply, step, *unit as usize, &report.answer, facts)
         }
         _ => Ok(()),
@@ -317,7 +327,7 @@ fn add_last_act<S: Supply>(
     supply: &mut S,
     step: &Step<'_>,
     unit: usize,
-    answer: &DeviceAnswer,
+    answer: &DeviceAnswer<ChunkLength>,
     facts: &mut StepFacts,
 ) -> Result<(), AllocError>
     ensures kept { facts.new ≡ facts.old }
