@@ -40,10 +40,14 @@ has_set setups set = list_any (λ (s : SubchannelSetup). nat_le set s.id.set) se
 abbrev pub IsOfSet : List SubchannelSetup → ℕ → Bool → Type 0
 IsOfSet setups word there = (id : SubchannelId) × (subchannel_named 4 word ≡ Some id) × (has_set setups id.set ≡ there)
 
--- nothing is known to be wrong with an operand of an action: its word is of a set that has subchannels, the operation-request block
--- that it fetches is allowed, it modifies no subchannel, and it resets no channel path
+-- the word of the instruction of an action is of a set that has subchannels
+abbrev pub IsWordRight : List SubchannelSetup → Action → Type 0
+IsWordRight setups asked = (word : ℕ) → word_instructed asked ≡ Some word → IsOfSet setups word true
+
+-- nothing is known to be wrong with an operand of an action: its word is right, the operation-request block that it fetches is allowed,
+-- it modifies no subchannel, and it resets no channel path
 pub record HasNoWrongOperand (storage : Contents) (setups : List SubchannelSetup) (asked : Action) : Type 0 where
-  pub word : (word : ℕ) → word_instructed asked ≡ Some word → IsOfSet setups word true
+  pub word : IsWordRight setups asked
   pub orb : (image : List ℕ) → IsOrbOf storage asked image → IsAllowedOrb image
   pub modifies : is_modify asked ≡ false
   pub resets : path_operand asked ≡ None
@@ -75,13 +79,13 @@ IsWordWrong setups word (operand.Identification told) = (told ≡ word) × (subc
 IsWordWrong setups word (operand.EmptySet told) = (told ≡ word) × IsOfSet setups word false
 IsWordWrong setups word other = ⊥
 
--- the operand that is told is one of the action: the word of its instruction, which is wrong; a bit that is one in the
--- operation-request block that it fetches; the block of MODIFY SUBCHANNEL; or what RESET CHANNEL PATH has for a path
-abbrev pub IsOperandOf : Contents → Parties → Action → OperandRefusal → Type 0
-IsOperandOf storage parties asked (operand.Orb bit) = (image : List ℕ) × IsOrbOf storage asked image × IsOneIn image bit
-IsOperandOf storage parties asked operand.Schib = is_modify asked ≡ true
-IsOperandOf storage parties asked (operand.ChannelPath chpid) = path_operand asked ≡ Some chpid
-IsOperandOf storage parties asked other = (word : ℕ) × (word_instructed asked ≡ Some word) × IsWordWrong parties.subchannels.items word other
+-- the operand that is told is one of the action: the word of its instruction, which is wrong; where the word is right, a bit that is one
+-- in the operation-request block that it fetches, or the block of MODIFY SUBCHANNEL; or what RESET CHANNEL PATH has for a path
+abbrev pub IsOperandOf : Contents → List SubchannelSetup → Action → OperandRefusal → Type 0
+IsOperandOf storage setups asked (operand.Orb bit) = IsWordRight setups asked × ((image : List ℕ) × IsOrbOf storage asked image × IsOneIn image bit)
+IsOperandOf storage setups asked operand.Schib = IsWordRight setups asked × (is_modify asked ≡ true)
+IsOperandOf storage setups asked (operand.ChannelPath chpid) = path_operand asked ≡ Some chpid
+IsOperandOf storage setups asked other = (word : ℕ) × (word_instructed asked ≡ Some word) × IsWordWrong setups word other
 
 -- where storage wants another boundary, it is the one that the address of the action must be on
 abbrev pub IsBoundaryOf : Action → StorageRefusal → Type 0
@@ -109,4 +113,4 @@ IsNamed state storage parties asked (refusal.NoUnit number) = unit_named asked �
 IsNamed state storage parties asked (refusal.Path chpid why) = (chpid_named asked ≡ Some chpid) × (path_standing asked ≡ Some why)
 IsNamed state storage parties asked (refusal.Unit number why) = (unit_acting asked ≡ Some number) × IsSideOf (side_named (act_named asked)) why
 IsNamed state storage parties asked (refusal.Storage address why) = (address_named asked ≡ Some address) × IsBoundaryOf asked why
-IsNamed state storage parties asked (refusal.Operand why) = IsOperandOf storage parties asked why
+IsNamed state storage parties asked (refusal.Operand why) = IsOperandOf storage parties.subchannels.items asked why

@@ -88,7 +88,7 @@ fn instruction_refusal<M: MainStorage>(
     cpu: Cpu,
     instruction: Instruction,
 ) -> Option<OperandRefusal>
-    ensures some { IfSome result (λ why. IsOperandOf (M.contents storage.now) parties.now (action_spec.Event (event_spec.Execute cpu instruction)) why) }
+    ensures some { IfSome result (λ why. IsOperandOf (M.contents storage.now) parties.now.subchannels.items (action_spec.Event (event_spec.Execute cpu instruction)) why) }
     ensures none { IfNone result (HasNoWrongOperand (M.contents storage.now) parties.now.subchannels.items (action_spec.Event (event_spec.Execute cpu instruction))) }
 {
     if let Some(why) = word_refusal(parties, instruction.subchannel_word()) {
@@ -110,7 +110,7 @@ fn refused_operand<M: MainStorage>(
     parties: &Parties,
     action: &KeptAction,
 ) -> Option<OperandRefusal>
-    ensures some { IfSome result (λ why. (bytes : List ℕ) → IsOperandOf (M.contents storage.now) parties.now (action_in action.now bytes) why) }
+    ensures some { IfSome result (λ why. (bytes : List ℕ) → IsOperandOf (M.contents storage.now) parties.now.subchannels.items (action_in action.now bytes) why) }
     ensures none { IfNone result ((bytes : List ℕ) → HasNoWrongOperand (M.contents storage.now) parties.now.subchannels.items (action_in action.now bytes)) }
 {
     match action {
