@@ -1,1 +1,3 @@
 pub mod Standing
+pub mod Actions
+pub mod Naming

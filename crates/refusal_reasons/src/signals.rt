@@ -1,10 +1,16 @@
 //! Signals that wait.
 
-ghost use Rattle.std.specs.Prelude.{◌≡◌, ◌<◌, ℕ, IfNone, IfSome};
+ghost use Rattle.std.specs.Prelude.{◌≡◌, ◌<◌, ℕ, List, IfNone, IfSome};
 ghost use Rattle.chan_model.specs.declared.fault.Fault.TheVariants as fault_spec;
+ghost use Rattle.script_rows.specs.Slots.{action_in};
+ghost use Rattle.step_records.specs.Named.{index_of};
 ghost use Rattle.step_records.specs.Refusing.{fault_of};
 ghost use Rattle.step_records.specs.declared.record.Way.TheVariants as way_spec;
-ghost use Rattle.refusal_reasons.specs.Standing.{HasWires, IsElsewhere, IsSo, NoneWaits, WaitsFirst};
+ghost use Rattle.storage_keys.specs.Storage.{Contents};
+ghost use Rattle.wires.specs.Queues.{Queues};
+ghost use Rattle.refusal_reasons.specs.Actions as spec;
+ghost use Rattle.refusal_reasons.specs.Naming.{IsBusy, IsNamed};
+ghost use Rattle.refusal_reasons.specs.Standing.{HasWires, IsElsewhere, IsEmptyWire, IsSo, NoneWaits, WaitsFirst};
 
 use chan_events::event::Event;
 use chan_model::fault::Fault;
@@ -23,7 +29,8 @@ pub(crate) fn wires_at<'a, L: Looks>(
     setups: &[SubchannelSetup],
     index: usize,
 ) -> Option<&'a Wires>
-    ensures { IfSome result (λ wires. HasWires (L.state looks.now) setups.now index wires.now) }
+    ensures found { IfSome result (λ wires. HasWires (L.state looks.now) setups.now index wires.now) }
+    ensures none { IfNone result ((wires : Queues) → HasWires (L.state looks.now) setups.now index wires → ⊥) }
 {
     let setup = setups.get(index)?;
     let subchannel = looks.subchannel(word_of(setup.id))?;
@@ -33,6 +40,7 @@ pub(crate) fn wires_at<'a, L: Looks>(
 /// The signal that waits longest on a wire down.
 fn first_down(wires: &Wires, path: Path) -> Option<FrontSignal>
     ensures found { IfSome result (λ signal. WaitsFirst wires.now path signal) }
+    ensures some { IfSome result (λ _. NoneWaits wires.now way_spec.Down path → ⊥) }
     ensures none { IfNone result (NoneWaits wires.now way_spec.Down path) }
 {
     match wires.front_down(path) {
@@ -44,6 +52,7 @@ fn first_down(wires: &Wires, path: Path) -> Option<FrontSignal>
 /// The signal that waits longest on a wire up.
 fn first_up(wires: &Wires, path: Path) -> Option<FrontSignal>
     ensures found { IfSome result (λ signal. WaitsFirst wires.now path signal) }
+    ensures some { IfSome result (λ _. NoneWaits wires.now way_spec.Up path → ⊥) }
     ensures none { IfNone result (NoneWaits wires.now way_spec.Up path) }
 {
     match wires.front_up(path) {
@@ -55,6 +64,7 @@ fn first_up(wires: &Wires, path: Path) -> Option<FrontSignal>
 /// The signal that waits longest on a wire; None where none waits.
 fn first_on(wires: &Wires, way: Way, path: Path) -> Option<FrontSignal>
     ensures found { IfSome result (λ signal. WaitsFirst wires.now path signal) }
+    ensures some { IfSome result (λ _. NoneWaits wires.now way path → ⊥) }
     ensures none { IfNone result (NoneWaits wires.now way path) }
 {
     match way {
@@ -94,46 +104,65 @@ fn elsewhere(wires: &Wires, way: Way, path: Path) -> Option<Front>
     }
 }
 
-/// The wire that an action takes a signal off, where there is that wire.
-fn wire_of(parties: &Parties, action: &KeptAction) -> Option<Wire> {
-    let (word, path, way) = match action {
-        KeptAction::Event(Event::Down { subchannel, path }) => (*subchannel, *path, Way::Down),
-        KeptAction::Event(Event::Up { subchannel, path }) => (*subchannel, *path, Way::Up),
-        _ => return None,
-    };
+/// The wire of a path of the subchannel that a word names; None where the subchannel is not there or no subchannel has that path.
+fn wire_at(parties: &Parties, word: u32, path: u32, way: Way) -> Option<Wire>
+    ensures { result ≡ spec.wire_at (index_of parties.now.subchannels.items word) path way }
+{
+    let subchannel = parties.subchannel_named(word)?;
+    let path = Path::new(path)?;
     Some(Wire {
-        subchannel: parties.subchannel_named(word)?,
-        path: Path::new(path)?,
+        subchannel,
+        path,
         way,
     })
 }
 
-/// Why no signal is taken off a wire; None where one waits there.
-#[tactic(auto, using(crate::proofs::Waiting::empty_wire))]
-fn empty_wire<L: Looks>(looks: &L, parties: &Parties, wire: Wire) -> Option<Refusal>
-    ensures fault { IfSome result (λ refusal. fault_of refusal ≡ fault_spec.NotSent) }
-    ensures so { IfSome result (λ refusal. IsSo (L.state looks.now) parties.now.subchannels.items refusal) }
+/// The wire that an action takes a signal off, where there is that wire.
+fn wire_of(parties: &Parties, action: &KeptAction) -> Option<Wire>
+    ensures { (bytes : List ℕ) → result ≡ spec.wire_named parties.now (action_in action.now bytes) }
 {
-    let wires = wires_at(looks, parties.subchannels.as_slice(), wire.subchannel)?;
-    match first_on(wires, wire.way, wire.path) {
-        Some(_) => None,
-        None => Some(Refusal::NothingWaits {
-            wire,
-            elsewhere: elsewhere(wires, wire.way, wire.path),
-        }),
+    match action {
+        KeptAction::Event(Event::Down { subchannel, path }) => {
+            wire_at(parties, *subchannel, *path, Way::Down)
+        }
+        KeptAction::Event(Event::Up { subchannel, path }) => {
+            wire_at(parties, *subchannel, *path, Way::Up)
+        }
+        _ => None,
+    }
+}
+
+/// What waits elsewhere, where nothing waits on this wire; None where a signal waits there, or where its subchannel has no wires.
+#[tactic(auto, using(crate::proofs::Waiting::empty_wire, crate::proofs::Naming::busy_wire))]
+fn told_elsewhere<L: Looks>(
+    looks: &L,
+    setups: &[SubchannelSetup],
+    wire: &Wire,
+) -> Option<Option<Front>>
+    ensures empty { IfSome result (λ told. IsEmptyWire (L.state looks.now) setups.now wire.now.subchannel wire.now.way wire.now.path told) }
+    ensures busy { IfNone result (IsBusy (L.state looks.now) setups.now wire.now) }
+{
+    match wires_at(looks, setups, wire.subchannel) {
+        None => None,
+        Some(wires) => match first_on(wires, wire.way, wire.path) {
+            Some(_) => None,
+            None => Some(elsewhere(wires, wire.way, wire.path)),
+        },
     }
 }
 
 /// Why no signal is taken.
+#[tactic(auto, unfolding(crate::specs::Naming::IsNamed))]
 pub(crate) fn nothing_waits<L: Looks>(looks: &L, parties: &Parties, action: &KeptAction) -> Refusal
     ensures fault { fault_of result ≡ fault_spec.NotSent }
     ensures so { IsSo (L.state looks.now) parties.now.subchannels.items result }
+    ensures named { (storage : Contents) (bytes : List ℕ) → IsNamed (L.state looks.now) storage parties.now (action_in action.now bytes) result }
 {
     let Some(wire) = wire_of(parties, action) else {
         return Refusal::Bare(Fault::NotSent);
     };
-    match empty_wire(looks, parties, wire) {
-        Some(refusal) => refusal,
+    match told_elsewhere(looks, parties.subchannels.as_slice(), &wire) {
+        Some(elsewhere) => Refusal::NothingWaits { wire, elsewhere },
         None => Refusal::Bare(Fault::NotSent),
     }
 }

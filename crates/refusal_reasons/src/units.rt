@@ -1,8 +1,12 @@
 //! Units that do not act now.
 
-ghost use Rattle.std.specs.Prelude.{◌≡◌, IfSome, true};
+ghost use Rattle.std.specs.Prelude.{◌≡◌, IfSome, None, Some, true};
 ghost use Rattle.chan_model.specs.declared.fault.Fault.TheVariants as fault_spec;
+ghost use Rattle.script_rows.specs.declared.Action.{Action};
 ghost use Rattle.step_records.specs.Refusing.{fault_of};
+ghost use Rattle.storage_keys.specs.Storage.{Contents};
+ghost use Rattle.refusal_reasons.specs.Actions.{act_named, chpid_named, side_named, unit_acting};
+ghost use Rattle.refusal_reasons.specs.Naming.{IsNamed, IsSideOf};
 ghost use Rattle.refusal_reasons.specs.Standing.{IsSo, IsUnitSo, IsWaiting, is_quiet};
 
 use crate::signals::{first_this_way, wires_at};
@@ -39,7 +43,8 @@ fn signal_between<L: Looks>(
     unit: u32,
     way: Way,
 ) -> Option<UnitRefusal>
-    ensures { IfSome result (λ why. IsUnitSo (L.state looks.now) setups.now «unit» why) }
+    ensures so { IfSome result (λ why. IsUnitSo (L.state looks.now) setups.now «unit» why) }
+    ensures side { IfSome result (λ why. IsSideOf None why) }
 {
     for index in 0..setups.len() {
         if u32::from(setups[index].unit) == unit
@@ -56,7 +61,8 @@ fn signal_between<L: Looks>(
 
 /// How far a unit is with its command.
 fn progress_of(state: &UnitState) -> UnitRefusal
-    ensures { is_quiet result ≡ true }
+    ensures quiet { is_quiet result ≡ true }
+    ensures side { IsSideOf None result }
 {
     match &state.current {
         None => UnitRefusal::NoCommand,
@@ -75,7 +81,8 @@ fn no_turn<L: Looks>(
     unit: u32,
     state: &UnitState,
 ) -> UnitRefusal
-    ensures { IsUnitSo (L.state looks.now) setups.now «unit» result }
+    ensures so { IsUnitSo (L.state looks.now) setups.now «unit» result }
+    ensures side { IsSideOf None result }
 {
     if let Some(why) = signal_between(looks, setups, unit, Way::Down) {
         return why;
@@ -88,7 +95,8 @@ fn no_turn<L: Looks>(
 
 /// Why the program of a unit does not leave, or asks for no path.
 fn place_of(state: &UnitState) -> UnitRefusal
-    ensures { is_quiet result ≡ true }
+    ensures quiet { is_quiet result ≡ true }
+    ensures side { IsSideOf None result }
 {
     match state.own {
         Own::Idle => UnitRefusal::Idle,
@@ -108,7 +116,8 @@ fn is_reached(setups: &[SubchannelSetup], unit: u32, side: Side) -> bool {
 
 /// Why a unit asks a side that a subchannel reaches for no attention.
 fn no_attention(side: Side, state: &UnitState) -> UnitRefusal
-    ensures { is_quiet result ≡ true }
+    ensures quiet { is_quiet result ≡ true }
+    ensures side { IsSideOf (Some side) result }
 {
     match state.own {
         Own::Owned { number, .. } => UnitRefusal::Held { number },
@@ -125,7 +134,8 @@ fn reason_of<L: Looks>(
     act: Option<UnitAct>,
     state: &UnitState,
 ) -> UnitRefusal
-    ensures { IsUnitSo (L.state looks.now) setups.now «unit» result }
+    ensures so { IsUnitSo (L.state looks.now) setups.now «unit» result }
+    ensures side { IsSideOf (side_named act) result }
 {
     match act {
         None => no_turn(looks, setups, unit, state),
@@ -138,6 +148,7 @@ fn reason_of<L: Looks>(
 }
 
 /// Why a unit does not act so now; its device, where no act is named.
+#[tactic(auto, unfolding(crate::specs::Naming::IsNamed))]
 pub(crate) fn unit_refusal<L: Looks>(
     looks: &L,
     parties: &Parties,
@@ -146,6 +157,7 @@ pub(crate) fn unit_refusal<L: Looks>(
 ) -> Refusal
     ensures fault { fault_of result ≡ fault_spec.NotNow }
     ensures so { IsSo (L.state looks.now) parties.now.subchannels.items result }
+    ensures named { (storage : Contents) (asked : Action) → unit_acting asked ≡ Some «unit» → act_named asked ≡ act → chpid_named asked ≡ None → IsNamed (L.state looks.now) storage parties.now asked result }
 {
     match looks.unit(unit) {
         Some(state) => Refusal::Unit {

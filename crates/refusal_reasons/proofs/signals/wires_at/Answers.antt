@@ -3,8 +3,8 @@ use Rattle.std.proofs.lemmas.Option.{slice_get_read}
 use Rattle.machine_model.specs.State.{sub_of}
 use Rattle.refusal_reasons.proofs.signals.wires_at.Goals as goal
 
-pub returns : goal.returns
-returns g c = record {
+pub returns-clause-found : goal.returns-clause-found
+returns-clause-found g c = record {
   setup = c.in_ok-setup.setup.now;
   named = search (slice_get_read, rules);
   sub = c.in_ok-subchannel.subchannel.now;
