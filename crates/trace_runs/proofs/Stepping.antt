@@ -174,15 +174,15 @@ none-aside = record { unanswered = refl; unmoved = λ course on. refl }
 one-aside : (line : ℕ) (refusal : Refusal) → IsAside (line_record line (fact_spec.Refused refusal) ∷ [])
 one-aside line refusal = record { unanswered = refl; unmoved = λ course on. refl }
 
-reason-aside : (parties : Parties) (machine : Installed) (line : ℕ) (f : Fault) (rest : List Record) → IsReason parties machine line f rest → IsAside rest
-reason-aside parties machine line f rest r = subst IsAside (sym r.are) (one-aside line r.refusal)
+reason-aside : (parties : Parties) (machine : Installed) (line : ℕ) (action : Action) (f : Fault) (rest : List Record) → IsReason parties machine line action f rest → IsAside rest
+reason-aside parties machine line action f rest r = subst IsAside (sym r.are) (one-aside line r.refusal)
 
 -- an action that changes nothing that is seen
 quiet_step : (old new : Traced) (line : ℕ) (action : Action) (outcome : ActionOutcome) (before middle after rest : List Record) →
     PerformsAction old.machine action outcome new.machine → is_quiet outcome ≡ true → new.parties ≡ old.parties → new.sight ≡ old.sight →
     new.waiting ≡ old.waiting → middle ≡ before ++ beginning line (found_where old.sight (instructed old.parties action)) →
     after ≡ (middle ++ answer_record line outcome ∷ []) ++ rest → IsAside rest →
-    ((f : Fault) → outcome ≡ Err f → IsReason old.parties new.machine line f rest) → IsSeen old → HasStepped old line action before after new
+    ((f : Fault) → outcome ≡ Err f → IsReason old.parties new.machine line action f rest) → IsSeen old → HasStepped old line action before after new
 quiet_step old new line action outcome before middle after rest acts quiet stay same still first then aside reason seen =
     let past = quiet_past old.machine new.machine action outcome quiet acts in
     let named = instructed old.parties action in
@@ -217,7 +217,7 @@ stepped_aside : (old new : Traced) (m : Installed) (line : ℕ) (action : Action
     PerformsAction old.machine action came m → came ≡ outcome → is_quiet outcome ≡ true → new ≡ record old { machine = m } →
     named ≡ instructed old.parties action → middle ≡ before ++ beginning line (found_where old.sight named) →
     after ≡ (middle ++ answer_record line outcome ∷ []) ++ rest → IsAside rest →
-    ((f : Fault) → outcome ≡ Err f → IsReason old.parties m line f rest) → IsSeen old → HasStepped old line action before after new
+    ((f : Fault) → outcome ≡ Err f → IsReason old.parties m line action f rest) → IsSeen old → HasStepped old line action before after new
 stepped_aside old new m line action came outcome named before middle after rest acts is quiet kept names first then aside reason seen =
     subst (λ (t : Traced). HasStepped old line action before after t) (sym kept)
     (quiet_step old (record old { machine = m }) line action outcome before middle after rest
@@ -246,12 +246,12 @@ same-fault one other came e f = ap (fault-of one) (sym e ∙ f)
 pub stepped_refused : (old new : Traced) (m : Installed) (line : ℕ) (action : Action) (came : ActionOutcome) (refused : Fault) (named : Option ℕ) (before middle answered after : List Record) →
     PerformsAction old.machine action came m → came ≡ Err refused → new ≡ record old { machine = m } →
     named ≡ instructed old.parties action → middle ≡ before ++ beginning line (found_where old.sight named) →
-    answered ≡ middle ++ answer_record line (Err refused) ∷ [] → HasReason old.parties m line refused answered after →
+    answered ≡ middle ++ answer_record line (Err refused) ∷ [] → HasReason old.parties m line action refused answered after →
     IsSeen old → HasStepped old line action before after new
 stepped_refused old new m line action came refused named before middle answered after acts is kept names first then why seen =
     stepped_aside old new m line action came (Err refused) named before middle after why.rest acts is refl kept names first
-    (why.added ∙ ap (λ (t : List Record). t ++ why.rest) then) (reason-aside old.parties m line refused why.rest why.reason)
-    (λ f e. subst (λ (x : Fault). IsReason old.parties m line x why.rest) (same-fault refused f (Err refused) refl e) why.reason) seen
+    (why.added ∙ ap (λ (t : List Record). t ++ why.rest) then) (reason-aside old.parties m line action refused why.rest why.reason)
+    (λ f e. subst (λ (x : Fault). IsReason old.parties m line action x why.rest) (same-fault refused f (Err refused) refl e) why.reason) seen
 
 -- an event of which the facts are told behind what it came to
 pub stepped_told : (old middle new : Traced) (m : Installed) (line : ℕ) (action : Action) (came : ActionOutcome) (named : Option ℕ) (before between after : List Record) →

@@ -13,6 +13,7 @@ use Rattle.machine_sight.specs.Finding.{found_of}
 use Rattle.machine_sight.specs.Shown.{Shows, TellsWaiting}
 use Rattle.machine_sight.specs.Waiting.{WaitingQueues}
 use Rattle.machine_sight.specs.declared.sight.Sight.{Sight}
+use Rattle.refusal_reasons.specs.Naming.{IsNamed}
 use Rattle.refusal_reasons.specs.Standing.{IsSo}
 use Rattle.script.specs.Pieces.{lines_of}
 use Rattle.script.specs.Scripts.{IsScript, ScriptContents}
@@ -114,18 +115,19 @@ pub record HasTold (old : Traced) (line : ℕ) (before after : List Record) (new
   pub parties_stay : new.parties ≡ old.parties
   pub seen : IsSeen new
 
--- why a line was refused: by a reason of this fault, which says of the wires of the machine what is so
-pub record IsReason (parties : Parties) (machine : Installed) (line : ℕ) (refused : Fault) (records : List Record) : Type 0 where
+-- why a line was refused: by a reason of this fault, which says of the wires of the machine what is so, and names what the action names
+pub record IsReason (parties : Parties) (machine : Installed) (line : ℕ) (action : Action) (refused : Fault) (records : List Record) : Type 0 where
   pub refusal : Refusal
   pub are : records ≡ line_record line (fact.Refused refusal) ∷ []
   pub of_fault : fault_of refusal ≡ refused
   pub so : IsSo machine.past.state parties.subchannels.items refusal
+  pub named : IsNamed machine.past.state machine.past.state.storage parties action refusal
 
 -- why a line was refused is told behind what it came to
-pub record HasReason (parties : Parties) (machine : Installed) (line : ℕ) (refused : Fault) (before after : List Record) : Type 0 where
+pub record HasReason (parties : Parties) (machine : Installed) (line : ℕ) (action : Action) (refused : Fault) (before after : List Record) : Type 0 where
   pub rest : List Record
   pub added : after ≡ before ++ rest
-  pub reason : IsReason parties machine line refused rest
+  pub reason : IsReason parties machine line action refused rest
 
 -- the facts of a line: first the line, what its instruction found of the subchannel that it names, and what its action came to, as
 -- `chsim run` performs it; then what differs between two looks, of which one shows the machine before it and the other after it. They
@@ -140,7 +142,7 @@ pub record IsToldOf (parties : Parties) (old : Installed) (number : ℕ) (action
   pub shown_after : Shows new.past.state parties after
   pub rest : List Record
   pub begins : facts ≡ first_facts number (found_where before (instructed parties action)) outcome ++ rest
-  pub reason : (refused : Fault) → outcome ≡ Err refused → IsReason parties new number refused rest
+  pub reason : (refused : Fault) → outcome ≡ Err refused → IsReason parties new number action refused rest
   pub answers : answers_of facts ≡ answered_line number outcome ∷ []
   pub waited : List WaitingQueues
   pub waits : List WaitingQueues

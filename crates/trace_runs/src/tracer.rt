@@ -298,7 +298,7 @@ impl<J: MachineBrand> Tracer<J> {
         fault: Fault,
         records: &mut Vec<Record>,
     ) -> Result<(), AllocError>
-        ensures added { OnOk result (HasReason self.now.parties self.now.machine line fault records.old.items records.new.items) }
+        ensures added { OnOk result ((bytes : List ℕ) → HasReason self.now.parties self.now.machine line (action_in action.now bytes) fault records.old.items records.new.items) }
         ensures unrefused { OnOk result (S.refused supply.new ≡ S.refused supply.old) }
         ensures memory { OnErr result (S.refused supply.new ≡ true) }
     {

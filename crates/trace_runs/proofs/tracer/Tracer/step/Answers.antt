@@ -14,7 +14,7 @@ returns-in_ok-add_reason-in-Err-clause-stepped g c =
     from_value _ _ _ _ _ _ _ c.self.view_is
     (stepped_refused _ _ c.act.new.self _ _ _ c.in-Err.fault c.instructed-named.result _ _ _ _ c.act.ensures.performs
     (search rules) refl (c.instructed-named.ensures c.args.bytes.now) c.in_ok-add_beginning.ensures.added
-    c.in_ok-add_refusal-in-Err.ensures.added c.in_ok-add_reason-in-Err.ensures.added)
+    c.in_ok-add_refusal-in-Err.ensures.added (c.in_ok-add_reason-in-Err.ensures.added c.args.bytes.now))
 
 pub returns-in_ok-tell_action-in-Ok-Replied-clause-stepped : goal.returns-in_ok-tell_action-in-Ok-Replied-clause-stepped
 returns-in_ok-tell_action-in-Ok-Replied-clause-stepped g c =
