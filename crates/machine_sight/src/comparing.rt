@@ -51,31 +51,27 @@ pub(crate) fn is_same_up(lent: &LentUp<'_>, other: &Up) -> bool
 }
 
 /// Whether both are the same down.
+#[tactic(auto, using(crate::proofs::Sameness::downs_same, crate::proofs::Sameness::downs_kept))]
 fn are_same_down(one: &Down, other: &Down) -> bool
     ensures { IsTrue result ↔ (one.now ≡ other.now) }
 {
     let kept = one.keep();
-    is_same_down(
-        &LentDown {
-            kept: &kept,
-            bytes: one.bytes(),
-        },
-        other,
-    )
+    let two = other.keep();
+    let first = one.bytes();
+    let second = other.bytes();
+    same_kept_down(&kept, &two) && same_bytes(first, second)
 }
 
 /// Whether both are the same up.
+#[tactic(auto, using(crate::proofs::Sameness::ups_same, crate::proofs::Sameness::ups_kept))]
 fn are_same_up(one: &Up, other: &Up) -> bool
     ensures { IsTrue result ↔ (one.now ≡ other.now) }
 {
     let kept = one.keep();
-    is_same_up(
-        &LentUp {
-            kept: &kept,
-            bytes: one.bytes(),
-        },
-        other,
-    )
+    let two = other.keep();
+    let first = one.bytes();
+    let second = other.bytes();
+    same_kept_up(&kept, &two) && same_bytes(first, second)
 }
 
 /// Whether both are the same, with the same bytes.

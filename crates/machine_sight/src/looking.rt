@@ -93,9 +93,19 @@ fn show_subchannels<S: Supply, L: Looks>(
     Ok(())
 }
 
-/// Writes a load over another, where there is one.
-#[inline(never)]
+/// Writes a load over another. A count is written where a count stands.
 fn show_load(shown: &mut Option<Load>, load: &Option<Load>)
+    ensures { shown.new ≡ load.now }
+{
+    match (&mut *shown, load) {
+        (Some(Load::Absorbed(own)), Some(Load::Absorbed(count))) => *own = *count,
+        _ => show_other_load(shown, load),
+    }
+}
+
+/// Writes a load over one of another kind, where there is one.
+#[inline(never)]
+fn show_other_load(shown: &mut Option<Load>, load: &Option<Load>)
     ensures { shown.new ≡ load.now }
 {
     *shown = match load {

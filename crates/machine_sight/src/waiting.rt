@@ -1,6 +1,6 @@
 //! What waits on the wires of each subchannel: signals are put in and taken out as the facts of steps tell it.
 
-ghost use Rattle.std.specs.Prelude.{◌≡◌, ◌<◌, ◌↔◌, [], IfOk, IsTrue, None, OnErr, OnOk, Some, drop, length, replicate, slice_get, true};
+ghost use Rattle.std.specs.Prelude.{◌≡◌, ◌<◌, ◌++◌, ◌∷◌, ◌↔◌, [], IfOk, IsTrue, None, OnErr, OnOk, Some, drop, length, replicate, slice_get, true};
 ghost use Rattle.std.specs.Bool.{OnFalse};
 ghost use Rattle.machine_sight.specs.Shown as shown_spec;
 ghost use Rattle.machine_sight.specs.Waiting as spec;
@@ -12,7 +12,7 @@ use crate::comparing::{is_same, is_same_down, is_same_up};
 use chan_model::names::Path;
 use chan_model::signal::{Down, Up};
 use machine::looks::Looks;
-use memory::{Supply, push};
+use memory::{Supply, ensure_room, push};
 use std::alloc::{AllocError, Global};
 use std::marker::Model;
 use step_records::parties::{Parties, word_of};
@@ -90,6 +90,25 @@ fn no_queues<S: Supply>(alloc: Global, supply: &mut S) -> Result<Vec<WaitingSign
     Ok(queues)
 }
 
+/// One signal more: it is copied once, to where it is to stand.
+fn add_signal<S: Supply>(
+    supply: &mut S,
+    signals: &mut Vec<Signal>,
+    signal: &Signal,
+) -> Result<(), AllocError>
+    ensures added { OnOk result (signals.new.items ≡ signals.old.items ++ signal.now ∷ []) }
+    ensures kept { OnErr result (signals.new.items ≡ signals.old.items) }
+    ensures unrefused { OnOk result (S.refused supply.new ≡ S.refused supply.old) }
+    ensures memory { OnErr result (S.refused supply.new ≡ true) }
+{
+    ensure_room(supply, signals, 1)?;
+    match signal {
+        Signal::Down(signal) => signals.push_reserved(Signal::Down(signal.copy())),
+        Signal::Up(signal) => signals.push_reserved(Signal::Up(signal.copy())),
+    }
+    Ok(())
+}
+
 /// Puts a signal behind those that wait on a path, and answers whether there is such a path.
 fn put_in<S: Supply>(
     supply: &mut S,
@@ -106,7 +125,7 @@ fn put_in<S: Supply>(
     if path.index() >= queues.len() {
         return Ok(false);
     }
-    push(supply, &mut queues[path.index()].signals, signal.copy())?;
+    add_signal(supply, &mut queues[path.index()].signals, signal)?;
     Ok(true)
 }
 

@@ -3,6 +3,7 @@ use Rattle.std.specs.Prelude.{◌≡◌, ◌-◌, ⊤, ℕ, true, false, List, [
 use Rattle.std.specs.List.{flat_map}
 use Rattle.chan_events.specs.Instructions.{subchannel_word}
 use Rattle.chan_events.specs.Events.{Event}
+use Rattle.chan_events.specs.Replies.{Reply}
 use Rattle.chan_events.specs.declared.event.Event.TheVariants as event
 use Rattle.chan_events.specs.declared.reply.Entry.{Entry}
 use Rattle.chan_model.specs.declared.fault.Fault.{Fault}
@@ -99,6 +100,10 @@ beginning line found = line_record line fact.Event ∷ found_records line found
 
 abbrev pub answer_record : ℕ → ActionOutcome → Record
 answer_record line outcome = line_record line (fact.Answer outcome)
+
+-- what an event that was accepted came to
+abbrev pub replied : ℕ → Reply → Record
+replied line reply = answer_record line (Ok (came.Reply reply))
 
 abbrev pub first_facts : ℕ → Option Fact → ActionOutcome → List Record
 first_facts line found outcome = beginning line found ++ answer_record line outcome ∷ []

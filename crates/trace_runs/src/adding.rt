@@ -1,13 +1,17 @@
 //! Records of a line, behind those before.
 
-ghost use Rattle.std.specs.Prelude.{◌≡◌, ◌++◌, ◌∷◌, [], Ok, Err, OnOk, OnErr, true};
+ghost use Rattle.chan_events.specs.Replies.{reply_in, reply_length};
+ghost use Rattle.chan_events.specs.declared.reply.Reply.TheVariants as reply_spec;
+ghost use Rattle.std.specs.Prelude.{◌≤◌, ◌<◌, length, vec_capacity, vec_len, ◌≡◌, ◌++◌, ◌∷◌, [], Ok, Err, OnOk, OnErr, true};
 ghost use Rattle.machine_sight.specs.Finding.{found_of};
 ghost use Rattle.script_text.specs.declared.ActionResult.TheVariants as result_spec;
 ghost use Rattle.step_facts.specs.Told.{line_record};
 ghost use Rattle.step_records.specs.declared.record.Fact.TheVariants as fact_spec;
 ghost use Rattle.trace_runs.specs.Tracing as spec;
 
+use chan_events::reply::Reply;
 use chan_model::fault::Fault;
+use chan_model::signal::{KeptDown, KeptUp, OnPath};
 use event_log::history::LentReply;
 use machine_sight::sight::Sight;
 use memory::{Supply, ensure_room};
@@ -84,24 +88,124 @@ pub(crate) fn add_beginning<S: Supply>(
     }
 }
 
-/// What an event that was accepted came to.
+/// The reply to a signal up that was met. Its signals are copied once, to where they are to stand.
 #[inline(never)]
+fn push_met_up(
+    line: u64,
+    signal: &KeptUp,
+    taken: bool,
+    sent: &Option<OnPath<KeptDown>>,
+    bytes: &[u8],
+    records: &mut Vec<Record>,
+)
+    requires room { vec_len records.old < vec_capacity records.old }
+    requires whole { reply_length (reply_spec.Up signal.now taken sent.now) ≤ length bytes.now }
+    ensures { records.new.items ≡ records.old.items ++ spec.replied line (reply_in (reply_spec.Up signal.now taken sent.now) bytes.now) ∷ [] }
+{
+    match sent {
+        None => records.push_reserved(Record {
+            line,
+            fact: Fact::Answer(Ok(ActionResult::Reply(Reply::Up {
+                signal: signal.lend(bytes).own(),
+                taken,
+                sent: None,
+            }))),
+        }),
+        Some(sent) => records.push_reserved(Record {
+            line,
+            fact: Fact::Answer(Ok(ActionResult::Reply(Reply::Up {
+                signal: signal.lend(bytes).own(),
+                taken,
+                sent: Some(OnPath {
+                    path: sent.path,
+                    signal: sent.signal.lend(&bytes[signal.length()..]).own(),
+                }),
+            }))),
+        }),
+    }
+}
+
+/// The same to a signal down.
+#[inline(never)]
+fn push_met_down(
+    line: u64,
+    signal: &KeptDown,
+    taken: bool,
+    sent: &Option<OnPath<KeptUp>>,
+    bytes: &[u8],
+    records: &mut Vec<Record>,
+)
+    requires room { vec_len records.old < vec_capacity records.old }
+    requires whole { reply_length (reply_spec.Down signal.now taken sent.now) ≤ length bytes.now }
+    ensures { records.new.items ≡ records.old.items ++ spec.replied line (reply_in (reply_spec.Down signal.now taken sent.now) bytes.now) ∷ [] }
+{
+    match sent {
+        None => records.push_reserved(Record {
+            line,
+            fact: Fact::Answer(Ok(ActionResult::Reply(Reply::Down {
+                signal: signal.lend(bytes).own(),
+                taken,
+                sent: None,
+            }))),
+        }),
+        Some(sent) => records.push_reserved(Record {
+            line,
+            fact: Fact::Answer(Ok(ActionResult::Reply(Reply::Down {
+                signal: signal.lend(bytes).own(),
+                taken,
+                sent: Some(OnPath {
+                    path: sent.path,
+                    signal: sent.signal.lend(&bytes[signal.length()..]).own(),
+                }),
+            }))),
+        }),
+    }
+}
+
+/// A reply, for which there is room.
+#[inline(never)]
+fn push_reply(line: u64, reply: &LentReply<'_>, records: &mut Vec<Record>)
+    requires { vec_len records.old < vec_capacity records.old }
+    ensures { records.new.items ≡ records.old.items ++ spec.replied line reply.now ∷ [] }
+{
+    records.push_reserved(Record {
+        line,
+        fact: Fact::Answer(Ok(ActionResult::Reply(reply.own()))),
+    });
+}
+
+/// What an event that was accepted came to.
 pub(crate) fn add_reply<S: Supply>(
     supply: &mut S,
     line: u64,
     reply: &LentReply<'_>,
     records: &mut Vec<Record>,
 ) -> Result<(), AllocError>
-    ensures added { OnOk result (records.new.items ≡ records.old.items ++ spec.answer_record line (Ok (result_spec.Reply reply.now)) ∷ []) }
+    ensures added { OnOk result (records.new.items ≡ records.old.items ++ spec.replied line reply.now ∷ []) }
     ensures unrefused { OnOk result (S.refused supply.new ≡ S.refused supply.old) }
     ensures memory { OnErr result (S.refused supply.new ≡ true) }
 {
-    add_fact(
-        supply,
-        line,
-        Fact::Answer(Ok(ActionResult::Reply(reply.own()))),
-        records,
-    )
+    ensure_room(supply, records, 1)?;
+    match reply.parts() {
+        (
+            Reply::Up {
+                signal,
+                taken,
+                sent,
+            },
+            bytes,
+        ) => push_met_up(line, signal, *taken, sent, bytes, records),
+        (
+            Reply::Down {
+                signal,
+                taken,
+                sent,
+            },
+            bytes,
+        ) => push_met_down(line, signal, *taken, sent, bytes, records),
+        _ => push_reply(line, reply, records),
+    }
+    Ok(())
 }
 
 /// What a look came to.
