@@ -162,7 +162,19 @@ fn push_met_down(
     }
 }
 
-/// A reply, for which there is room.
+/// The reply that says no more than that the event was accepted.
+#[inline(never)]
+fn push_done(line: u64, records: &mut Vec<Record>)
+    requires { vec_len records.old < vec_capacity records.old }
+    ensures { records.new.items ≡ records.old.items ++ spec.replied line reply_spec.Done ∷ [] }
+{
+    records.push_reserved(Record {
+        line,
+        fact: Fact::Answer(Ok(ActionResult::Reply(Reply::Done))),
+    });
+}
+
+/// Another reply.
 #[inline(never)]
 fn push_reply(line: u64, reply: &LentReply<'_>, records: &mut Vec<Record>)
     requires { vec_len records.old < vec_capacity records.old }
@@ -203,6 +215,7 @@ pub(crate) fn add_reply<S: Supply>(
             },
             bytes,
         ) => push_met_down(line, signal, *taken, sent, bytes, records),
+        (Reply::Done, _) => push_done(line, records),
         _ => push_reply(line, reply, records),
     }
     Ok(())
