@@ -38,7 +38,7 @@ use Rattle.step_records.specs.declared.record.Record.{Record}
 use Rattle.step_records.specs.declared.record.Signal.{Signal}
 use Rattle.step_records.specs.declared.record.Wire.{Wire}
 use Rattle.step_records.specs.declared.refusal.Refusal.{Refusal}
-use Rattle.trace_runs.specs.Tracing.{AreHeldBy, HasReason, HasStepped, HasTold, IsLast, IsLastEvent, IsLastOf, IsMovedBy, IsReason, IsSeen, Traced, answer_record, answered_line, beginning, first_facts, found_where, instructed}
+use Rattle.trace_runs.specs.Tracing.{HasReason, HasStepped, HasTold, IsLast, IsLastEvent, IsLastOf, IsMovedBy, IsReason, IsSeen, Traced, answer_record, answered_line, beginning, first_facts, found_where, instructed}
 
 -- a refusal, or a look
 abbrev pub is_quiet : ActionOutcome → Bool

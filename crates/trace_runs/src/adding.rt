@@ -10,7 +10,9 @@ ghost use Rattle.step_records.specs.declared.record.Fact.TheVariants as fact_spe
 ghost use Rattle.trace_runs.specs.Tracing as spec;
 
 use chan_events::reply::Reply;
+use chan_model::answer::Answer;
 use chan_model::fault::Fault;
+use chan_model::names::Path;
 use chan_model::signal::{KeptDown, KeptUp, OnPath};
 use event_log::history::LentReply;
 use machine_sight::sight::Sight;
@@ -174,6 +176,34 @@ fn push_done(line: u64, records: &mut Vec<Record>)
     });
 }
 
+/// The condition code of an instruction.
+#[inline(never)]
+fn push_code(line: u64, answer: Answer, records: &mut Vec<Record>)
+    requires { vec_len records.old < vec_capacity records.old }
+    ensures { records.new.items ≡ records.old.items ++ spec.replied line (reply_spec.Code answer) ∷ [] }
+{
+    records.push_reserved(Record {
+        line,
+        fact: Fact::Answer(Ok(ActionResult::Reply(Reply::Code(answer)))),
+    });
+}
+
+/// A program that was offered.
+#[inline(never)]
+fn push_offered(line: u64, number: u64, path: Path, resumed: bool, records: &mut Vec<Record>)
+    requires { vec_len records.old < vec_capacity records.old }
+    ensures { records.new.items ≡ records.old.items ++ spec.replied line (reply_spec.Offered number path resumed) ∷ [] }
+{
+    records.push_reserved(Record {
+        line,
+        fact: Fact::Answer(Ok(ActionResult::Reply(Reply::Offered {
+            number,
+            path,
+            resumed,
+        }))),
+    });
+}
+
 /// Another reply.
 #[inline(never)]
 fn push_reply(line: u64, reply: &LentReply<'_>, records: &mut Vec<Record>)
@@ -216,6 +246,15 @@ pub(crate) fn add_reply<S: Supply>(
             bytes,
         ) => push_met_down(line, signal, *taken, sent, bytes, records),
         (Reply::Done, _) => push_done(line, records),
+        (Reply::Code(answer), _) => push_code(line, *answer, records),
+        (
+            Reply::Offered {
+                number,
+                path,
+                resumed,
+            },
+            _,
+        ) => push_offered(line, *number, *path, *resumed, records),
         _ => push_reply(line, reply, records),
     }
     Ok(())

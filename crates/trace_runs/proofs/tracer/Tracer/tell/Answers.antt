@@ -1,7 +1,6 @@
-use Rattle.std.proofs.Common.{◌∙◌, ap, drop, rules, subst, sym, List, Vec}
+use Rattle.std.proofs.Common.{◌∙◌, ap, drop, rules, subst, sym}
 use Rattle.machine_sight.specs.Shown.{Shows, TellsWaiting}
 use Rattle.step_facts.specs.Told.{nothing_told}
-use Rattle.step_records.specs.declared.record.Record.{Record}
 use Rattle.trace_runs.proofs.Stepping.{at_value, has_told, seen_next}
 use Rattle.trace_runs.specs.Tracing.{IsLastEvent, Traced}
 use Rattle.trace_runs.proofs.tracer.Tracer.tell.Goals as goal
