@@ -6,8 +6,6 @@ mod config_text;
 mod name_text;
 pub mod numbers;
 pub mod printing;
-#[cfg(test)]
-mod tests;
 pub mod verdict;
 pub mod whole;
 mod word_text;

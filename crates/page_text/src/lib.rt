@@ -6,5 +6,3 @@ mod elements;
 pub mod escape;
 pub mod marks;
 pub mod page;
-#[cfg(test)]
-mod tests;

@@ -21,6 +21,3 @@ pub use crate::hold_text::{put_hold, put_hold_short};
 pub use crate::names::put_subchannel_name;
 pub use crate::signal::put_signal;
 pub use crate::signal_fields::put_signal_fields;
-
-#[cfg(test)]
-mod tests;

@@ -83,6 +83,3 @@ pub fn refusal_of<L: Looks, M: MainStorage>(
         Fault::Operand => operand_refusal(storage, parties, action),
     }
 }
-
-#[cfg(test)]
-mod tests;

@@ -1,5 +1,5 @@
 -- What is told where one fact is added.
-use Rattle.std.proofs.Common.{◌≡◌, ◌≤◌, ◌∙◌, refl, sym, ap, arith, ℕ, Bool, true, List, [], ◌∷◌, ◌++◌, drop, drop_of_length-le, length, map, take, append_assoc, Result, Option, Some}
+use Rattle.std.proofs.Common.{◌≡◌, ◌≤◌, ◌∙◌, refl, sym, ap, arith, ℕ, Bool, true, List, [], ◌∷◌, ◌++◌, drop, drop_of_length-le, length, map, take, append_assoc, Option, Some}
 use Rattle.std.proofs.lemmas.List.{append-nil, drop-append-le, map-append, take-append-drop, take-append-le, take_all}
 use Rattle.std.proofs.lemmas.List.Elements.{filter-append, filter_map-append}
 use Rattle.std.proofs.lemmas.Option.{same_Some}
@@ -11,8 +11,6 @@ use Rattle.step_records.specs.declared.record.Wire.{Wire}
 use Rattle.step_records.specs.declared.record.Moved.{Moved}
 use Rattle.step_records.specs.declared.record.Signal.{Signal}
 use Rattle.chan_model.specs.declared.hold_state.HoldState.{HoldState}
-use Rattle.chan_model.specs.declared.fault.Fault.{Fault}
-use Rattle.script_text.specs.declared.ActionResult.{ActionResult}
 use Rattle.step_facts.specs.Told.{AnsweredLine, AreToldBy, Told, answered_by, facts_where, is_hold, is_move, is_other, nothing_told, only, told_behind, told_of, told_with, with_holds, with_moves}
 
 facts-push : (is : Fact → Bool) (rs : List Record) (r : Record) → facts_where is (rs ++ r ∷ []) ≡ facts_where is rs ++ only is r.fact
@@ -53,10 +51,6 @@ told_quiet told (fact.Answer o) h = cc
 told_quiet told (fact.Signal w m s) h = cc
 told_quiet told (fact.Hold s b a) h = cc
 told_quiet told f h = from_parts told.line told.before _ _ _ _ _ _ (append-nil told.answers) (append-nil told.moves) (append-nil told.holds)
-
-pub told_answer : (told : Told) (o : Result ActionResult Fault) →
-    told_with told (fact.Answer o) ≡ record told { answers = told.answers ++ record { line = told.line; outcome = o } ∷ [] }
-told_answer told o = from_parts told.line told.before _ _ _ _ _ _ refl (append-nil told.moves) (append-nil told.holds)
 
 pub told_move : (told : Told) (w : Wire) (m : Moved) (s : Signal) → told_with told (fact.Signal w m s) ≡ with_moves told (fact.Signal w m s ∷ [])
 told_move told w m s = from_parts told.line told.before _ _ _ _ _ _ (append-nil told.answers) refl (append-nil told.holds)

@@ -1,6 +1,6 @@
 //! One step of a machine, and the list of its facts.
 
-ghost use Rattle.std.specs.Prelude.{◌≡◌, ◌≤◌, ◌++◌, ◌∷◌, [], OnOk, OnErr, length, true};
+ghost use Rattle.std.specs.Prelude.{◌≡◌, ◌≤◌, ◌∷◌, [], OnOk, OnErr, length, true};
 ghost use Rattle.chan_events.specs.Events.{event_in, event_length};
 ghost use Rattle.chan_events.specs.Replies.{reply_in, reply_length};
 ghost use Rattle.chan_model.specs.declared.hold_state.HoldState.{HoldState};
@@ -11,14 +11,12 @@ ghost use Rattle.step_records.specs.declared.record.Fact.TheVariants as fact_spe
 
 use chan_events::event::{Event, KeptEvent};
 use chan_events::reply::KeptReply;
-use chan_model::fault::Fault;
 use chan_model::hold_state::HoldState;
 use channel_config::parts::PathReturn;
 use event_log::history::LentReply;
 use machine_sight::sight::Sight;
 use machine_sight::waiting::Waiting;
 use memory::{Supply, ensure_room};
-use script_text::ActionResult;
 use std::alloc::AllocError;
 use std::marker::Model;
 use step_records::parties::Parties;
@@ -176,21 +174,6 @@ impl StepFacts {
         ensures memory { OnErr result (S.refused supply.new ≡ true) }
     {
         self.add(supply, fact)
-    }
-
-    /// What the line came to.
-    #[tactic(auto, using(crate::proofs::Telling::told_answer))]
-    pub fn push_answer<S: Supply>(
-        &mut self,
-        supply: &mut S,
-        outcome: Result<ActionResult, Fault>,
-    ) -> Result<(), AllocError>
-        ensures told { OnOk result (self.new ≡ record self.old { answers = self.old.answers ++ record { line = self.old.line; outcome = outcome } ∷ [] }) }
-        ensures kept { OnErr result (self.new ≡ self.old) }
-        ensures unrefused { OnOk result (S.refused supply.new ≡ S.refused supply.old) }
-        ensures memory { OnErr result (S.refused supply.new ≡ true) }
-    {
-        self.add(supply, Fact::Answer(outcome))
     }
 
     /// A signal that moved.

@@ -10,8 +10,6 @@ ghost use Rattle.trace_runs.specs.Faults.{IsFaultIn, IsFaultOf, IsScriptFault};
 ghost use Rattle.trace_runs.specs.Tracing.{HasPerformedAt, HasTraced, IsSeen, IsTraced};
 
 mod adding;
-#[cfg(test)]
-mod tests;
 pub mod tracer;
 
 use crate::tracer::Tracer;

@@ -8,8 +8,6 @@
 
 mod block;
 mod layout;
-#[cfg(test)]
-mod tests;
 
 use crate::block::{LineFault, read_line};
 use crate::layout::put_block;

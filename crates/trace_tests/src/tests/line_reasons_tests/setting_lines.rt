@@ -1,6 +1,6 @@
 //! Lines that configure, first lines, and lines behind others.
 
-use crate::tests::{LaterLine, WrongLine};
+use crate::tests::line_reasons_tests::{LaterLine, WrongLine};
 
 /// A race, and refused settings behind those of a machine with one subchannel.
 static REFUSED_SETTINGS: [WrongLine; 10] = [

@@ -1,9 +1,9 @@
 //! Scripts, performed with the facts of each step.
 
-use crate::{TraceFault, trace_script};
 use memory::{Allocator, FailingMemory};
 use std::alloc::Global;
 use step_records::record::{Fact, Moved, Record};
+use trace_runs::{TraceFault, trace_script};
 
 /// One write of four bytes.
 const ONE_WRITE: &[u8] =

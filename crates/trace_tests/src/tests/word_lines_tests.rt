@@ -1,7 +1,7 @@
 //! What the examples of the sheets say, a status word with a check, and lines that have no block.
 
-use crate::{WordsEnd, put_words};
 use streams::CheckedWriter;
+use word_lines::{WordsEnd, put_words};
 
 const SHEETS: &[u8] =
     b"# the examples of the sheets\norb 12345678 4882FF80 00001000\n\nccw1 01640004 00003000\nccw0 02003100 24000006\nscsw 48804007 00001010 0C000000\ncode 00030000 00000007 38000000\ncrw 040600C1\ncrw 440200C1\n";

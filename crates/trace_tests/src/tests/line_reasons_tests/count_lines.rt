@@ -1,6 +1,6 @@
 //! Lines with too few or too many words, behind those of a machine with one subchannel.
 
-use crate::tests::WrongLine;
+use crate::tests::line_reasons_tests::WrongLine;
 
 /// Counts, blanks and comments.
 static SOME_COUNTS: [WrongLine; 12] = [

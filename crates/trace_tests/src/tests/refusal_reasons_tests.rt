@@ -1,6 +1,5 @@
 //! Why actions are refused, at moments of one write.
 
-use crate::refusal_of;
 use chan_events::event::{Event, Instruction, UnitAct};
 use chan_model::chunk::Chunk;
 use chan_model::fault::Fault;
@@ -10,6 +9,7 @@ use channel_config::config::Config;
 use channel_config::parts::UnitKind;
 use memory::Allocator;
 use path_select::Rotating;
+use refusal_reasons::refusal_of;
 use script_rows::slots::KeptAction;
 use std::alloc::Global;
 use std::process::Abort;

@@ -1,8 +1,8 @@
 //! A page with texts that would be markup, and with no memory.
 
-use crate::marks::{Attribute, Mark, Tag};
-use crate::page::Page;
 use memory::{Allocator, FailingMemory, Supply};
+use page_text::marks::{Attribute, Mark, Tag};
+use page_text::page::Page;
 use std::test::Fail;
 use streams::{CheckedWriter, Sink};
 

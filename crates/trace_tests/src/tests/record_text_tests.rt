@@ -1,9 +1,9 @@
 //! The words of refusals.
 
-use crate::refusal::put_refusal_reason;
 use chan_model::fault::Fault;
 use chan_model::names::{Path, Side};
 use chan_model::signal::{KeptDown, KeptUp};
+use record_text::refusal::put_refusal_reason;
 use script_text::held::Held;
 use std::process::Abort;
 use step_records::parties::Parties;

@@ -1,6 +1,6 @@
 //! Lines with a word that is not what it should be, behind those of a machine with one subchannel.
 
-use crate::tests::WrongLine;
+use crate::tests::line_reasons_tests::WrongLine;
 
 /// Digits and ranges.
 static DIGITS: [WrongLine; 12] = [

@@ -1,6 +1,6 @@
 //! Lines whose first word is unknown, behind those of a machine with one subchannel.
 
-use crate::tests::WrongLine;
+use crate::tests::line_reasons_tests::WrongLine;
 
 /// First words that begin no line.
 static FIRST_WORDS: [WrongLine; 15] = [
