@@ -207,12 +207,37 @@ def histories() -> None:
         expect("what is let go", list(machine.history()), [])
 
 
+def many() -> None:
+    """1,024 subchannels in four sets, each with a unit of its own: each is enabled and cleared, the more sets before its own the lower
+    its subclass, and TEST PENDING INTERRUPTION answers all of them by subclass, and those of one in order."""
+    sets = range(4)
+    words = [[0x00010000 | the_set << 17 | number for number in range(256)] for the_set in sets]
+    in_turn = [(the_set, words[the_set][number]) for number in range(256) for the_set in sets]
+    with Machine() as machine:
+        machine.set_sets(len(sets))
+        machine.add_path(PATH)
+        for number, (_, word) in enumerate(in_turn):
+            machine.add_subchannel(word, number, machine.add_unit(Odd()), [PATH])
+        machine.start(bytearray(0x10000))
+        for the_set, word in in_turn:
+            codes = machine.enable(word, 3 - the_set), machine.csch(word)
+            machine.choose(word)
+            taken = machine.down(word, 0), machine.up(word, 0)
+            if (codes, taken) != ((0, 0), (True, True)):
+                expect(f"clearing {word:08X}", (codes, taken), ((0, 0), (True, True)))
+        answered = [machine.tpi_code(0xFF) for _ in in_turn]
+        wanted = [(word, 0, (3 - the_set) << 27) for the_set in reversed(sets) for word in words[the_set]]
+        expect("the interruption codes", answered == wanted, True)
+        expect("no code more", machine.tpi_code(0xFF), None)
+
+
 def main() -> int:
     stages()
     errors()
     devices()
     by_hand()
     histories()
+    many()
     for it in wrong:
         print(it)
     print(f"checks {checks} otherwise {len(wrong)}")

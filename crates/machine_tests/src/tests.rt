@@ -1,14 +1,10 @@
 //! A module for each crate that is tested.
 
-mod by_value_tests;
 mod channel_subsystem_tests;
 mod device_models_ends;
 mod device_models_tests;
 mod histories_tests;
-mod kept_history_tests;
 mod long_runs_tests;
-mod looks_tests;
-mod many_subchannels_tests;
 mod refusals_tests;
 mod script_lines;
 mod script_rows_tests;
@@ -16,5 +12,4 @@ mod script_tests;
 mod script_text_shown_lines;
 mod script_text_tests;
 mod script_wrong_lines;
-mod setup_choices_tests;
 mod subsystem_tests;

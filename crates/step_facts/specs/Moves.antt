@@ -8,8 +8,7 @@ use Rattle.chan_events.specs.Replies.{Reply}
 use Rattle.chan_events.specs.declared.reply.Reply.TheVariants as reply
 use Rattle.step_records.specs.declared.record.Fact.{Fact}
 use Rattle.step_records.specs.declared.record.Fact.TheVariants as fact
-use Rattle.step_records.specs.declared.record.Moved.{Moved}
-use Rattle.step_records.specs.declared.record.Moved.TheVariants.{Sent, Taken, Ignored, Vanished}
+use Rattle.step_records.specs.Moving.{met_as, sent_as}
 use Rattle.step_records.specs.declared.record.Signal.TheVariants as signal
 use Rattle.step_records.specs.declared.record.Way.TheVariants.{Down, Up}
 use Rattle.step_records.specs.declared.record.Wire.{Wire}
@@ -24,11 +23,6 @@ wire_down sub path = record { subchannel = sub; path = path; way = Down }
 abbrev pub wire_up : ℕ → ℕ → Wire
 wire_up sub path = record { subchannel = sub; path = path; way = Up }
 
--- a signal that was met is taken where a state changed or a signal was sent
-abbrev pub met_as : Bool → Moved
-met_as true = Taken
-met_as false = Ignored
-
 -- the signal that was met at the end of a wire of a subchannel
 abbrev pub met_of : ℕ → Event → Reply → List Fact
 met_of sub (event.Up word path) (reply.Up s taken sent) = fact.Signal (wire_up sub path) (met_as taken) (signal.Up s) ∷ []
@@ -42,11 +36,6 @@ known_restarts_at (Some s) = s.state.hold.known_restarts
 
 abbrev pub known_restarts : Sight → ℕ → ℕ
 known_restarts sight sub = known_restarts_at (slice_get sight.subchannels.items sub)
-
--- a signal that is sent on a path that is down vanishes
-abbrev pub sent_as : Bool → Moved
-sent_as true = Sent
-sent_as false = Vanished
 
 abbrev pub sent_down : Sight → ℕ → ℕ → signals.Down → List Fact
 sent_down before sub path s = fact.Signal (wire_down sub path) (sent_as (is_available before sub path)) (signal.Down s) ∷ []

@@ -1,3 +1,4 @@
 pub mod Lines
+pub mod Moving
 pub mod Named
 pub mod Refusing

@@ -1,5 +1,8 @@
 //! Records: the facts of the steps of a script.
 
+ghost use Rattle.std.specs.Prelude.{◌≡◌};
+ghost use Rattle.step_records.specs.Moving as spec;
+
 use crate::refusal::Refusal;
 use ccw_codec::{Ccw, Format};
 use chan_model::chunk::Chunk;
@@ -179,6 +182,26 @@ pub enum Moved {
     Lost,
     /// It was sent on a path that is down.
     Vanished,
+}
+
+impl Moved {
+    /// What became of a signal that was met, which changed a state or had a signal sent, or came to nothing.
+    pub fn met(taken: bool) -> Moved
+        ensures { result ≡ spec.met_as taken }
+    {
+        if taken { Moved::Taken } else { Moved::Ignored }
+    }
+
+    /// What became of a signal that was sent on a path, which is available or down.
+    pub fn sent(available: bool) -> Moved
+        ensures { result ≡ spec.sent_as available }
+    {
+        if available {
+            Moved::Sent
+        } else {
+            Moved::Vanished
+        }
+    }
 }
 
 /// A mask of the path-management-control word (SA22-7832, chapter 15).

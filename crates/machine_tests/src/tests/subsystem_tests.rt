@@ -166,7 +166,7 @@ fn has_serials(subsystem: &Subsystem<Rotating>, made: u64, cleared: u64) -> bool
 }
 
 /// TEST SUBCHANNEL of the subchannel.
-fn test() -> Option<Event> {
+pub fn test() -> Option<Event> {
     execute(Instruction::Tsch {
         subchannel: WORD,
         address: 0x600,

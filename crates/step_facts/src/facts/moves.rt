@@ -27,24 +27,6 @@ use wires::Wires;
 /// How many signals a wire holds at most.
 pub(crate) const WIRE_ROOM: usize = 8;
 
-/// What became of a signal that was met.
-fn met_as(taken: bool) -> Moved
-    ensures { result ≡ spec.met_as taken }
-{
-    if taken { Moved::Taken } else { Moved::Ignored }
-}
-
-/// What became of a signal that was sent on a path.
-fn sent_as(available: bool) -> Moved
-    ensures { result ≡ spec.sent_as available }
-{
-    if available {
-        Moved::Sent
-    } else {
-        Moved::Vanished
-    }
-}
-
 /// The wire of a path of a subchannel. Neither need be there.
 fn wire_at(subchannel: Option<usize>, path: u32, way: Way) -> Result<Wire, SightFault>
     ensures named { IfOk result (λ wire. subchannel ≡ Some wire.subchannel) }
@@ -112,7 +94,7 @@ pub(crate) fn add_met<S: Supply>(
         (Event::Up { path, .. }, _) => match step.reply() {
             (Reply::Up { signal, taken, .. }, bytes) => {
                 let wire = wire_at(step.subchannel, *path, Way::Up)?;
-                push_up(supply, wire, met_as(*taken), &signal.lend(bytes), facts)?;
+                push_up(supply, wire, Moved::met(*taken), &signal.lend(bytes), facts)?;
                 Ok(())
             }
             _ => Ok(()),
@@ -120,7 +102,7 @@ pub(crate) fn add_met<S: Supply>(
         (Event::Down { path, .. }, _) => match step.reply() {
             (Reply::Down { signal, taken, .. }, bytes) => {
                 let wire = wire_at(step.subchannel, *path, Way::Down)?;
-                push_down(supply, wire, met_as(*taken), &signal.lend(bytes), facts)?;
+                push_down(supply, wire, Moved::met(*taken), &signal.lend(bytes), facts)?;
                 Ok(())
             }
             _ => Ok(()),
@@ -291,7 +273,7 @@ fn send_down<S: Supply>(
     ensures unrefused { OnOk result (S.refused supply.new ≡ S.refused supply.old) }
     ensures memory { OnErr result (S.refused supply.new ≡ true) }
 {
-    let moved = sent_as(step.before.is_available(subchannel, path));
+    let moved = Moved::sent(step.before.is_available(subchannel, path));
     let wire = wire_of(subchannel, path, Way::Down);
     push_down(supply, wire, moved, signal, facts)
 }
@@ -310,7 +292,7 @@ fn send_up<S: Supply>(
     ensures unrefused { OnOk result (S.refused supply.new ≡ S.refused supply.old) }
     ensures memory { OnErr result (S.refused supply.new ≡ true) }
 {
-    let moved = sent_as(step.before.is_available(subchannel, path));
+    let moved = Moved::sent(step.before.is_available(subchannel, path));
     let wire = wire_of(subchannel, path, Way::Up);
     push_up(supply, wire, moved, signal, facts)
 }

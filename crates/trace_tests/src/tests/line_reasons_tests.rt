@@ -1,16 +1,16 @@
 //! Tests of what is told of wrong lines.
 
 mod count_lines;
+mod digit_lines;
 mod name_lines;
 mod setting_lines;
-mod word_lines;
 
 use crate::tests::line_reasons_tests::count_lines::{other_counts, some_counts};
+use crate::tests::line_reasons_tests::digit_lines::{digits, other_words, ranges};
 use crate::tests::line_reasons_tests::name_lines::{first_words, other_names};
 use crate::tests::line_reasons_tests::setting_lines::{
     first_lines, later_lines, refused_settings, setting_lines,
 };
-use crate::tests::line_reasons_tests::word_lines::{digits, other_words, ranges};
 use line_reasons::checker::{Checker, Checking};
 use line_reasons::printing::{put_bad_line, put_reasons};
 use line_reasons::whole::bad_lines;
