@@ -1,11 +1,11 @@
 //! What the condition code of an instruction says, by the line that asks for it and by what it found.
 
-use crate::instruction::{CpuAct, act_of};
 use chan_events::reply::Reply;
 use record_text::codes::code_of;
 use step_records::parties::Parties;
 use step_records::record::Fact;
 use streams::Sink;
+use trace_driver::instruction::{CpuAct, act_of};
 use word_names::{Found, put_code_words};
 
 /// What an instruction found of its subchannel, by the fact that tells it; None where the fact tells something else.

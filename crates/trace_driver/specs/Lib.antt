@@ -1,0 +1,5 @@
+pub mod Instructions
+pub mod Visible
+pub mod SeenWords
+pub mod Seen
+pub mod Driver
