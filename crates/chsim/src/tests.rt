@@ -1,87 +1,21 @@
-//! The program's words, readers and writers that fail, want of memory, and scripts that are made line by line. Scripts that are
-//! written out are those of `example_tests`, which runs them and compares what they print.
+//! The program's words, readers and writers that fail, and want of memory. What whole scripts print is compared by `example_tests`,
+//! which has scripts that are written out, and by `tools/scenes`, which makes scripts line by line.
 
-mod answers;
-mod changes;
 mod commands;
 mod failures;
-mod first_write;
-mod full_wires;
-mod losses;
 mod openings;
-mod paths;
-mod programs;
-mod rules;
 mod scenes;
-mod stops;
 mod want_of_memory;
 
 use crate::outcome::Outcome;
 use crate::serve;
-use crate::tests::scenes::Scene;
+use crate::tests::scenes::first_write;
 use crate::tests::want_of_memory::{Short, Slow};
 use memory::{Allocator, FailingMemory};
 use script_runner::Ending;
 use std::sync::Wait;
 use std::thread::Threads;
 use streams::{CheckedReader, CheckedWriter};
-
-/// The output and the exit status of a command over a text.
-pub fn served<R: Threads + Wait + Sync + AllocGlobal>(
-    rt: &R,
-    word: &str,
-    text: &[u8],
-) -> (Vec<u8>, u8) {
-    let mut reader = CheckedReader::new(text);
-    let mut sink = CheckedWriter::new(Vec::new(rt.alloc()));
-    let mut supply = Allocator { refused: false };
-    let outcome = serve(
-        rt,
-        rt.alloc(),
-        &mut supply,
-        &["chsim", word],
-        &mut reader,
-        &mut sink,
-    );
-    (sink.writer, outcome.status())
-}
-
-#[test]
-fn a_good_script_is_run_or_approved(rt: HostRuntime) {
-    let write = Scene::of_a_write(&rt);
-    assert!(rt; write.is_right(&rt));
-    let (out, status) = served(&rt, "check", write.text());
-    assert!(rt; out.as_slice() == b"script ok\n".as_slice() && status == 0);
-}
-
-#[test]
-fn a_race_is_told(rt: HostRuntime) {
-    let mut scene = Scene::with_one_path(&rt);
-    scene.says(b"pathdown 10", b"done");
-    scene.says(b"csch 0", b"cc 0");
-    scene.says(b"choose 0", b"status");
-    scene.says(
-        b"race 4 100 tsch 0",
-        b"race cc0 1 cc1 399 cc2 0 cc3 0 entries 400 audit ok",
-    );
-    let (out, status) = served(&rt, "race", scene.text());
-    assert!(rt; out.as_slice() == scene.printed() && status == 0);
-}
-
-#[test]
-fn a_bad_line_is_told_alone(rt: HostRuntime) {
-    let rows: [(&[u8], &[u8]); 3] = [
-        (b"", b"bad line 1 rule 6\n"),
-        (b"storage 10\nssch 0\n", b"bad line 2 rule 2\n"),
-        (b"storage 10\nput 500 C1\nssch 0\n", b"bad line 3 rule 2\n"),
-    ];
-    for (text, printed) in rows {
-        for word in ["run", "check"] {
-            let (out, status) = served(&rt, word, text);
-            assert!(rt; out.as_slice() == printed && status == 2);
-        }
-    }
-}
 
 const UNWRITTEN: &str = "chsim: standard output could not be written";
 
@@ -92,7 +26,7 @@ fn ends(outcome: Outcome, status: u8, complaint: Option<&str>) -> bool {
 
 #[test]
 fn a_text_that_is_not_read_is_not_served(rt: HostRuntime) {
-    let write = Scene::of_a_write(&rt);
+    let write = first_write(&rt);
     for fails_at in 0..60u64 {
         let mut reader = CheckedReader::new(Slow {
             rest: write.text(),
@@ -123,7 +57,7 @@ fn a_text_that_is_not_read_is_not_served(rt: HostRuntime) {
 
 #[test]
 fn nothing_is_performed_after_a_write_fails(rt: HostRuntime) {
-    let write = Scene::of_a_write(&rt);
+    let write = first_write(&rt);
     for fails_at in 0..120u64 {
         let mut reader = CheckedReader::new(write.text());
         let mut sink = CheckedWriter::new(Short {
@@ -230,7 +164,7 @@ fn refusals<R: Threads + Wait + Sync + AllocGlobal>(
 
 #[test]
 fn each_request_is_refused_in_turn(rt: HostRuntime) {
-    let write = Scene::of_a_write(&rt);
+    let write = first_write(&rt);
     // The text, its 22 lines, and the nine requests of the machine and its device at least; and room for what is entered.
     let run = refusals(&rt, "run", write.text(), write.printed());
     assert!(rt; matches!(run, Some((before, all)) if before >= 33 && before < all && all < 1_000));

@@ -2,8 +2,7 @@
 
 use crate::outcome::Outcome;
 use crate::tests::commands::{LONGEST, cases, command};
-use crate::tests::first_write::{LINES, SETTINGS, first_write, raced_write, refused_write};
-use crate::tests::scenes::Scene;
+use crate::tests::scenes::{LINES, SETTINGS, Scene, first_write, raced_write, refused_write};
 use crate::tests::want_of_memory::{Short, Slow};
 use script_runner::Ending;
 use std::sync::Wait;

@@ -1,7 +1,7 @@
 //! Each request for memory before the first event is refused in turn, under a race too.
 
 use crate::outcome::Outcome;
-use crate::tests::first_write::{LINES, first_lines, first_write};
+use crate::tests::scenes::{LINES, first_lines, first_write};
 use crate::tests::served_with;
 use script_runner::Ending;
 use std::sync::Wait;
