@@ -5,6 +5,7 @@ mod device_models_ends;
 mod device_models_tests;
 mod histories_tests;
 mod long_runs_tests;
+mod many_subchannels_tests;
 mod refusals_tests;
 mod script_lines;
 mod script_rows_tests;
