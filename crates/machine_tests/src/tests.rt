@@ -6,7 +6,6 @@ mod device_models_tests;
 mod histories_tests;
 mod long_runs_tests;
 mod refusals_tests;
-mod script_lines;
 mod script_rows_tests;
 mod script_tests;
 mod script_text_shown_lines;
