@@ -7,7 +7,6 @@ mod histories_tests;
 mod long_runs_tests;
 mod many_subchannels_tests;
 mod refusals_tests;
-mod script_lines;
 mod script_rows_tests;
 mod script_tests;
 mod script_text_shown_lines;

@@ -92,9 +92,9 @@ impl<J: MachineBrand> Racer<J> {
         mind: &mut Mind,
     ) -> (u64, bool) {
         let instruction = instruction_of(cpu, round);
-        let answer = machine.instruct(rt, &mut self.seat, cpu, instruction);
+        let count = count_of(&machine.instruct(rt, &mut self.seat, cpu, instruction));
         let in_order = glances_in_order(&mut self.seat, cpu, round, mind);
-        (count_of(&answer), in_order)
+        (count, in_order)
     }
 
     /// What it does in a round: how many entries were answered, and whether what it saw is in order. Units roam.

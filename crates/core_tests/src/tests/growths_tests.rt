@@ -8,6 +8,7 @@ use crate::tests::scenarios::{Scenario, goes, setting};
 use chan_events::event::{Event, Instruction};
 use chan_model::fault::Fault;
 use chan_model::names::Cpu;
+use channel_config::config::Config;
 use core_lock::locked::{Core, Seat};
 use core_lock::naming::MachineBrand;
 use core_lock::parts::Parts;
@@ -72,14 +73,12 @@ fn requests_of<J: MachineBrand>(
     let before = sight(core, seat)?;
     for left in 0..MANY {
         let mut supply = granting(left);
-        match core.enter_with(&mut supply, seat, event.copy()) {
-            Ok(_) => return if supply.refused { None } else { Some(left) },
-            Err(fault) => {
-                let same = sight(core, seat) == Some(before);
-                if !supply.refused || !same || !matches!(fault, Fault::NoMemory) {
-                    return None;
-                }
-            }
+        let fault = core.enter_with(&mut supply, seat, event.copy()).err();
+        let same = sight(core, seat) == Some(before);
+        match fault {
+            None if !supply.refused => return Some(left),
+            Some(Fault::NoMemory) if supply.refused && same => {}
+            _ => return None,
         }
     }
     None
@@ -162,11 +161,10 @@ fn each_request_of_many_entries_is_refused_in_turn(rt: HostRuntime) {
 }
 
 /// How many requests the parts of a machine make, which are refused each in turn and then made; None where it is otherwise.
-fn requests_of_parts(alloc: Global) -> Option<u64> {
-    let config = setting(alloc, Scenario::Grows);
+fn requests_of_parts(alloc: Global, config: &Config) -> Option<u64> {
     for left in 0..MANY {
         let mut supply = granting(left);
-        let made = Parts::new_with(alloc, &mut supply, &config).is_ok();
+        let made = Parts::new_with(alloc, &mut supply, config).is_ok();
         if made == supply.refused {
             return None;
         }
@@ -181,5 +179,8 @@ fn requests_of_parts(alloc: Global) -> Option<u64> {
 /// shared.
 #[test]
 fn each_request_of_parts_is_refused_in_turn(rt: HostRuntime) {
-    assert!(rt; requests_of_parts(rt.alloc()) == Some(4));
+    let config = setting(rt.alloc(), Scenario::Grows);
+    let requests = requests_of_parts(rt.alloc(), &config);
+    drop(config);
+    assert!(rt; requests == Some(4));
 }

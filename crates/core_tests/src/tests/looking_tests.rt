@@ -40,13 +40,13 @@ fn makes<J: MachineBrand, R: Wait>(
     ensures { seat.new.value.owed ≡ None }
 {
     let csch = CpuInstruction::OnSubchannel(Instruction::Csch { subchannel: WORD });
-    let asked = machine.instruct(rt, seat, cpu, csch);
+    let asked = machine.instruct(rt, seat, cpu, csch).is_ok();
     let chosen = machine.path_worker(rt, seat, 0x10, 1);
     let tested = machine.instruct(rt, seat, cpu, CpuInstruction::OnSubchannel(tsch(WORD)));
-    asked.is_ok()
+    asked
         && chosen == 1
         && matches!(
-            tested,
+            &tested,
             Ok(Reply::Status {
                 answer: Answer::Zero(_),
                 ..
@@ -130,6 +130,11 @@ fn has_seen<J: MachineBrand>(racer: Option<&mut Racer<J>>) -> bool {
     }
 }
 
+/// Whether that holds of both.
+fn have_seen<J: MachineBrand>(racers: &mut Vec<Racer<J>>) -> bool {
+    has_seen(racers.get_mut(0)) && has_seen(racers.get_mut(1))
+}
+
 /// One thread makes and clears statuses, and another looks: they, where both went well and see all statuses in the end.
 pub fn looks<J: MachineBrand + Send + Sync, R: Threads + Wait + Sync>(
     rt: &R,
@@ -146,7 +151,7 @@ pub fn looks<J: MachineBrand + Send + Sync, R: Threads + Wait + Sync>(
         },
     );
     let mut racers = worked.ok()?;
-    if has_seen(racers.get_mut(0)) && has_seen(racers.get_mut(1)) {
+    if have_seen(&mut racers) {
         Some(racers)
     } else {
         None

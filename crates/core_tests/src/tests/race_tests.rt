@@ -8,7 +8,7 @@ ghost use Rattle.core_lock.specs.Directory.{directory_of};
 use crate::tests::machines::{WORD, config_of};
 use chan_events::event::Event;
 use channel_config::config::Config;
-use core_lock::locked::Core;
+use core_lock::locked::{Core, Seat};
 use core_lock::naming::MachineBrand;
 use core_lock::parts::Parts;
 use event_log::history::History;
@@ -62,6 +62,19 @@ fn changes(history: &History<'_>) -> u64 {
     changes
 }
 
+/// A seat of a core, and CPUs that are to race at it.
+fn seated<J: MachineBrand>(
+    alloc: Global,
+    core: &mut Core<J, Rotating>,
+) -> Option<(Seat<J>, Racers<J>)>
+    requires { core.old.value.seats ≡ 0 }
+{
+    let mut supply = Allocator { refused: false };
+    let own = one_seat(&mut supply, core).ok()?;
+    let racers = Racers::new(alloc, &mut supply, core, RACE.cpus).ok()?;
+    Some((own, racers))
+}
+
 /// How often entries change hands in a race at a core.
 fn changes_on<J: MachineBrand + Send + Sync, R: Threads + Wait + Sync>(
     rt: &R,
@@ -71,9 +84,7 @@ fn changes_on<J: MachineBrand + Send + Sync, R: Threads + Wait + Sync>(
     requires { core.value.seats ≡ 0 }
 {
     let mut core = core;
-    let mut supply = Allocator { refused: false };
-    let own = one_seat(&mut supply, &mut core).ok()?;
-    let racers = Racers::new(alloc, &mut supply, &mut core, RACE.cpus).ok()?;
+    let (own, racers) = seated(alloc, &mut core)?;
     let (core, _, _) = racers.race(rt, core, own, RACE);
     let history = core.subsystem().history();
     Some(changes(&history))

@@ -67,13 +67,20 @@ fn performs<'a>(
     true
 }
 
+/// Whether a subsystem answers all events of a history as they were answered.
+fn answers_alike<'a>(
+    subsystem: &mut Subsystem<Recorded<'a>>,
+    shown: &Cell<Option<Path>>,
+    history: &History<'_>,
+) -> bool {
+    performs(subsystem, shown, history) && subsystem.history().is_same(history)
+}
+
 /// Whether a fresh subsystem that is set up so answers all events of a history as they were answered.
 pub fn replays(alloc: Global, config: Config, history: &History<'_>) -> bool {
     let shown = Cell::new(None);
     match Subsystem::new(alloc, config, Recorded { shown: &shown }) {
-        Ok(mut subsystem) => {
-            performs(&mut subsystem, &shown, history) && subsystem.history().is_same(history)
-        }
+        Ok(mut subsystem) => answers_alike(&mut subsystem, &shown, history),
         Err(_) => false,
     }
 }

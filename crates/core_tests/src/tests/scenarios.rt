@@ -296,7 +296,10 @@ fn make_and_tell<J: MachineBrand + Send + Sync, R: Threads + Wait + Sync>(
     let NotMade { subsystem, parts } = given;
     let mut supply = granting(1);
     match Core::<J, Rotating>::new_with(alloc, &mut supply, subsystem, parts) {
-        Ok(core) => !supply.refused && tell(rt, alloc, core, scenario),
+        Ok(core) => {
+            let told = tell(rt, alloc, core, scenario);
+            told && !supply.refused
+        }
         Err(_) => false,
     }
 }

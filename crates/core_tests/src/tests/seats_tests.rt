@@ -70,7 +70,7 @@ pub fn sees<J: MachineBrand>(
 /// Whether the reply that is lent is condition code 3.
 fn has_code_three<J: MachineBrand>(core: &Core<J, Rotating>) -> bool {
     match core.subsystem().last_reply() {
-        Some(reply) => matches!(reply.own(), Reply::Code(Answer::Three)),
+        Some(reply) => matches!(&reply.own(), Reply::Code(Answer::Three)),
         None => false,
     }
 }
@@ -101,7 +101,7 @@ pub fn fills<J: MachineBrand>(core: &mut Core<J, Rotating>, racers: &mut Vec<Rac
             return false;
         }
     }
-    matches!(core.seat(), Err(Fault::NotNow))
+    matches!(core.seat().err(), Some(Fault::NotNow))
 }
 
 #[test]

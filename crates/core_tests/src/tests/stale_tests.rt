@@ -148,12 +148,12 @@ fn resets<J: MachineBrand, R: Wait>(
         return false;
     };
     let clear = CpuInstruction::OnSubchannel(Instruction::Csch { subchannel: WORD });
-    let asked = machine.instruct(rt, seat, cpu, clear);
+    let asked = machine.instruct(rt, seat, cpu, clear).is_ok();
     let sent = machine.path_worker(rt, seat, CHPID, 1);
     let mut device = AnyDevice::of(UnitKind::Block);
     let taken = machine.device_worker(rt, seat, 0, &mut device, &Open, false, 1);
     let answered = machine.path_worker(rt, seat, CHPID, 1);
-    asked.is_ok() && sent == 1 && taken == 1 && answered == 1
+    asked && sent == 1 && taken == 1 && answered == 1
 }
 
 impl<J: MachineBrand> Racer<J> {
@@ -195,8 +195,20 @@ fn starts_again<J: MachineBrand, R: Wait>(
     };
     let status = cleared(rt, machine, program, &CLEARED);
     let start = CpuInstruction::OnSubchannel(ssch(WORD));
-    let started = machine.instruct(rt, program, cpu, start);
-    status == Some(true) && started.is_ok()
+    let started = machine.instruct(rt, program, cpu, start).is_ok();
+    status == Some(true) && started
+}
+
+/// Whether the call went on after the reset, all went well with the racers, and a program is started again.
+fn is_stale<J: MachineBrand, R: Wait>(
+    rt: &R,
+    machine: &Machine<J, Rotating>,
+    gate: &Barrier,
+    program: &mut Seat<J>,
+    racers: &[Racer<J>],
+) -> bool {
+    let passed = gate.passed.load(Ordering::SeqCst) == 1;
+    passed && are_well(racers) && starts_again(rt, machine, program)
 }
 
 /// One thread resets while the call of a device waits at the gate on another; its report is handed in after it, and adds
@@ -222,8 +234,7 @@ pub fn comes_late<J: MachineBrand + Send + Sync, R: Threads + Wait + Sync>(
         },
     );
     let racers = worked.ok()?;
-    let passed = gate.passed.load(Ordering::SeqCst) == 1;
-    if passed && are_well(racers.as_slice()) && starts_again(rt, machine, program) {
+    if is_stale(rt, machine, &gate, program, racers.as_slice()) {
         roams(rt, machine, program, racers)
     } else {
         None
@@ -238,17 +249,20 @@ fn number_of(event: &Event) -> Option<u64> {
     }
 }
 
+/// That of an entry, if it is one; None where there is no entry.
+fn number_at(history: &History<'_>, index: usize) -> Option<Option<u64>> {
+    let entry = history.get(index)?;
+    Some(number_of(&entry.event))
+}
+
 /// Whether a history has reports, and none of the program that was cleared.
 pub fn has_dropped(history: &History<'_>) -> bool {
     let mut reported = false;
     for index in 0..history.len() {
-        let Some(entry) = history.get(index) else {
-            return false;
-        };
-        match number_of(&entry.event) {
-            Some(NUMBER) => return false,
-            Some(_) => reported = true,
-            None => {}
+        match number_at(history, index) {
+            None | Some(Some(NUMBER)) => return false,
+            Some(Some(_)) => reported = true,
+            Some(None) => {}
         }
     }
     reported
@@ -259,9 +273,9 @@ pub fn has_dropped(history: &History<'_>) -> bool {
 pub fn is_refused<J: MachineBrand>(core: &mut Core<J, Rotating>, seat: &mut Seat<J>) -> bool {
     let before = core.subsystem().history().len();
     let report = late_report();
-    let refusal = core.enter(seat, Event::Report { unit: 0, report });
+    let refusal = core.enter(seat, Event::Report { unit: 0, report }).err();
     let after = core.subsystem().history().len();
-    matches!(refusal, Err(Fault::NotNow)) && before == after
+    matches!(refusal, Some(Fault::NotNow)) && before == after
 }
 
 #[test]

@@ -70,13 +70,13 @@ pub fn cleared<J: MachineBrand, R: Wait>(
 ) -> Option<bool> {
     let cpu = Cpu::new(0)?;
     let tested = machine.instruct(rt, program, cpu, CpuInstruction::OnSubchannel(tsch(WORD)));
-    match tested {
+    match &tested {
         Ok(
             Reply::Status {
                 answer: Answer::Zero(_),
                 scsw,
             },
-        ) => Some(is_due(&scsw, due)),
+        ) => Some(is_due(scsw, due)),
         _ => None,
     }
 }
@@ -116,23 +116,39 @@ pub fn roams<J: MachineBrand + Send + Sync, R: Threads + Wait + Sync>(
     None
 }
 
+/// What an event says of the path of a unit.
+#[derive(Clone, Copy)]
+enum Move {
+    Leaves,
+    Asks,
+    Neither,
+}
+
+/// What that of an entry says.
+fn move_at(history: &History<'_>, number: usize) -> Option<Move> {
+    let entry = history.get(number)?;
+    match &entry.event {
+        Event::Act {
+            act: UnitAct::Leave,
+            ..
+        } => Some(Move::Leaves),
+        Event::Act {
+            act: UnitAct::Ask { .. },
+            ..
+        } => Some(Move::Asks),
+        _ => Some(Move::Neither),
+    }
+}
+
 /// Whether the unit left its path and asked for one.
 pub fn has_roamed(history: &History<'_>) -> bool {
     let mut left = false;
     for number in 0..history.len() {
-        let Some(entry) = history.get(number) else {
-            return false;
-        };
-        match &entry.event {
-            Event::Act {
-                act: UnitAct::Leave,
-                ..
-            } => left = true,
-            Event::Act {
-                act: UnitAct::Ask { .. },
-                ..
-            } => return left,
-            _ => {}
+        match move_at(history, number) {
+            Some(Move::Leaves) => left = true,
+            Some(Move::Asks) => return left,
+            Some(Move::Neither) => {}
+            None => return false,
         }
     }
     false

@@ -1,6 +1,6 @@
 //! A channel subsystem on its host's storage: a write whose history is kept, performed again, and let go.
 
-use super::subsystem_tests::{WORD, script, test};
+use super::subsystem_tests::{EVENTS, WORD, script, test};
 use chan_events::event::Event;
 use channel_config::config::Config;
 use channel_config::parts::UnitKind;
@@ -95,27 +95,19 @@ impl Guest {
     }
 }
 
-/// The events of a write, to the TEST SUBCHANNEL that clears its status.
-fn write(alloc: Global) -> Vec<Event> {
-    let mut events = script(alloc);
-    if let Some(event) = test() {
-        let _ = events.push(event);
-    }
-    events
-}
-
-/// How many events a write has.
-const EVENTS: usize = 18;
+/// How many entries a write makes, to the TEST SUBCHANNEL that clears its status.
+const ENTRIES: usize = EVENTS + 1;
 
 /// Whether a write is kept, its status stored, and the same comes of its history at another guest.
-fn is_repeated(events: &[Event], first: &mut Guest, second: &mut Guest) -> bool {
-    let done = first.enters_all(events) && first.has_status() && first.entries() == EVENTS;
+fn is_repeated(first: &mut Guest, second: &mut Guest) -> bool {
+    let done = first.enters_all(&script()) && first.enters(&test());
+    let kept = first.has_status() && first.entries() == ENTRIES;
     let replayed = second.replays(&first.subsystem.history()).is_none();
     let same = second
         .subsystem
         .history()
         .is_same(&first.subsystem.history());
-    done && replayed && same && second.bytes.as_slice() == first.bytes.as_slice()
+    done && kept && replayed && same && second.bytes.as_slice() == first.bytes.as_slice()
 }
 
 /// Whether a second replay of a write ends as the subchannel is enabled, which answers otherwise since a status was made; that event was
@@ -129,7 +121,7 @@ fn ends_at_other_reply(first: &Guest, second: &mut Guest) -> bool {
             difference: Difference::OtherReply
         })
     );
-    other && second.entries() == EVENTS + 4
+    other && second.entries() == ENTRIES + 4
 }
 
 /// What is let go is not kept, and what comes then is.
@@ -139,24 +131,24 @@ fn lets_go(guest: &mut Guest) -> bool {
     none && guest.enters(&Event::SystemReset) && guest.entries() == 1
 }
 
-/// A guest of 16 blocks, and one of so many.
-fn guests(alloc: Global, blocks: u32) -> Option<(Guest, Guest)> {
-    let first = Guest::new(alloc, BLOCKS)?;
-    let second = Guest::new(alloc, blocks)?;
-    Some((first, second))
+/// Whether a write is repeated so, a second replay ends, and what was kept is let go.
+fn is_kept(first: &mut Guest, second: &mut Guest) -> bool {
+    let repeated = is_repeated(first, second);
+    let other = ends_at_other_reply(first, second);
+    let gone = lets_go(first);
+    repeated && other && gone
+}
+
+/// The same of two guests of 16 blocks; None where there is no memory.
+fn keep(alloc: Global) -> Option<bool> {
+    let mut first = Guest::new(alloc, BLOCKS)?;
+    let mut second = Guest::new(alloc, BLOCKS)?;
+    Some(is_kept(&mut first, &mut second))
 }
 
 #[test]
 fn a_write_is_kept_and_performed_again(rt: HostRuntime) {
-    let Some((mut first, mut second)) = guests(rt.alloc(), BLOCKS) else {
-        return assert!(rt; false, "there is memory");
-    };
-    let repeated = is_repeated(write(rt.alloc()).as_slice(), &mut first, &mut second);
-    let other = ends_at_other_reply(&first, &mut second);
-    let gone = lets_go(&mut first);
-    drop(first);
-    drop(second);
-    assert!(rt; repeated && other && gone);
+    assert!(rt; keep(rt.alloc()) == Some(true));
 }
 
 /// Whether an event and a replay are refused on storage of other blocks than were set up, and nothing is kept of them.
@@ -173,14 +165,21 @@ fn is_refused(guest: &mut Guest, history: &History<'_>) -> bool {
     refused && other && guest.entries() == 0
 }
 
+/// Whether a guest accepts an event, and a larger one refuses it and the history.
+fn refuses_larger(first: &mut Guest, larger: &mut Guest) -> bool {
+    let kept = first.enters(&Event::SystemReset);
+    let refused = is_refused(larger, &first.subsystem.history());
+    kept && refused
+}
+
+/// The same of a guest of 16 blocks and one of 17; None where there is no memory.
+fn refuse(alloc: Global) -> Option<bool> {
+    let mut first = Guest::new(alloc, BLOCKS)?;
+    let mut larger = Guest::new(alloc, BLOCKS + 1)?;
+    Some(refuses_larger(&mut first, &mut larger))
+}
+
 #[test]
 fn storage_of_another_size_is_refused(rt: HostRuntime) {
-    let Some((mut first, mut larger)) = guests(rt.alloc(), BLOCKS + 1) else {
-        return assert!(rt; false, "there is memory");
-    };
-    let kept = first.enters(&Event::SystemReset);
-    let refused = is_refused(&mut larger, &first.subsystem.history());
-    drop(first);
-    drop(larger);
-    assert!(rt; kept && refused);
+    assert!(rt; refuse(rt.alloc()) == Some(true));
 }

@@ -94,9 +94,8 @@ fn takes(unit: &mut Unit, signal: PlainDown) -> bool {
     unit.take(Side::First, path, &signal.lend(), true).taken
 }
 
-#[test]
-fn channel_end_that_was_sent_is_left_out_of_the_later_status(rt: HostRuntime) {
-    let mut unit = Unit::new();
+/// Whether a unit is selected and takes a command that rewinds, shows channel end, then device end alone, and then nothing.
+fn ends_in_two(unit: &mut Unit) -> bool {
     let mut device = Rewinding;
     let rewind = PlainDown::of(Down::Command {
         number: 1,
@@ -104,13 +103,18 @@ fn channel_end_that_was_sent_is_left_out_of_the_later_status(rt: HostRuntime) {
         code: 7,
         room: 0,
     });
-    let selected = takes(&mut unit, PlainDown::of(Down::Select { number: 1 }));
-    let begun = takes(&mut unit, rewind);
-    let first = end_shown(&mut unit, &mut device);
-    let second = end_shown(&mut unit, &mut device);
-    let third = end_shown(&mut unit, &mut device);
+    let selected = takes(unit, PlainDown::of(Down::Select { number: 1 }));
+    let begun = takes(unit, rewind);
+    let first = end_shown(unit, &mut device);
+    let second = end_shown(unit, &mut device);
+    let third = end_shown(unit, &mut device);
+    selected && begun && first == Some(0x08) && second == Some(0x04) && third == None
+}
+
+#[test]
+fn channel_end_that_was_sent_is_left_out_of_the_later_status(rt: HostRuntime) {
+    let mut unit = Unit::new();
+    let ended = ends_in_two(&mut unit);
     drop(unit);
-    drop(device);
-    assert!(rt; selected && begun && first == Some(0x08));
-    assert!(rt; second == Some(0x04) && third == None);
+    assert!(rt; ended);
 }

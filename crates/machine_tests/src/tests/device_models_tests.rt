@@ -22,24 +22,51 @@ fn first_path() -> CommandPath {
     }
 }
 
-/// Begins a command and ends it, its bytes moved before: the two statuses.
-fn run(store: &mut BlockStore, code: u8, bytes: &[u8]) -> (u8, u8) {
-    let first = begun(store, code);
-    let _ = store.absorb(bytes);
-    (first, store.finish().status.bits())
+/// A call of a device, and what it is to answer.
+#[derive(Clone, Copy)]
+enum Step<'a> {
+    /// The command of a code begins, with this status.
+    Begins(u8, u8),
+    /// Of bytes that are written, so many are taken.
+    Takes(&'a [u8], usize),
+    /// Of a read, the next bytes, so many at most, are these.
+    Gives(usize, &'a [u8]),
+    /// They are so many.
+    GivesCount(usize, usize),
+    /// The command ends with this status, and there are more bytes or not.
+    Ends(u8, bool),
+    /// The device is restarted.
+    Restarts,
+}
+
+/// Whether a device answers so.
+fn answers<D: Device>(device: &mut D, step: &Step<'_>) -> bool {
+    match step {
+        Step::Begins(code, status) => begun(device, *code) == *status,
+        Step::Takes(bytes, count) => device.absorb(bytes) == *count,
+        Step::Gives(most, bytes) => device.supply(*most).as_slice() == *bytes,
+        Step::GivesCount(most, count) => device.supply(*most).len() == *count,
+        Step::Ends(status, more) => ended(device) == (*status, *more),
+        Step::Restarts => {
+            device.restart();
+            true
+        }
+    }
+}
+
+/// Whether it answers so to all of these, one after another.
+fn answers_all<D: Device>(device: &mut D, steps: &[Step<'_>]) -> bool {
+    for step in steps {
+        if !answers(device, step) {
+            return false;
+        }
+    }
+    true
 }
 
 /// Begins a command; its first status.
 fn begun<D: Device>(device: &mut D, code: u8) -> u8 {
     device.initial(code, first_path()).bits()
-}
-
-/// The call for the initial status of a command.
-fn initial(code: u8) -> Call {
-    Call::Initial {
-        code,
-        came_by: first_path(),
-    }
 }
 
 /// Ends a command: its last status, and whether there was more.
@@ -48,103 +75,143 @@ fn ended<D: Device>(device: &mut D) -> (u8, bool) {
     (status.bits(), more)
 }
 
-/// Whether the next bytes, so many at most, are these.
-fn gives<D: Device>(device: &mut D, most: usize, bytes: &[u8]) -> bool {
-    device.supply(most).as_slice() == bytes
+/// Whether a store of blocks that was not called before answers so.
+fn store_answers(steps: &[Step<'_>]) -> bool {
+    let mut store = BlockStore::new();
+    answers_all(&mut store, steps)
 }
+
+/// The same of a console.
+fn console_answers(steps: &[Step<'_>]) -> bool {
+    let mut console = Console::new();
+    answers_all(&mut console, steps)
+}
+
+/// A byte that nobody asked for, and a write beyond a block.
+const WRITTEN: [Step<'_>; 7] = [
+    Step::Takes(&[1], 0),
+    Step::Begins(1, 0),
+    Step::Takes(&[7; 60], 60),
+    Step::Takes(&[9; 60], 4),
+    Step::Ends(0x0C, false),
+    Step::Begins(1, 0),
+    Step::Takes(&[5], 1),
+];
 
 #[test]
 fn a_write_is_taken_up_to_a_block(rt: HostRuntime) {
-    let mut store = BlockStore::new();
-    let unasked = store.absorb(&[1]);
-    let writes = begun(&mut store, 1);
-    let first = store.absorb(&[7; 60]);
-    let second = store.absorb(&[9; 60]);
-    let written = ended(&mut store);
-    let again = begun(&mut store, 1);
-    let front = store.absorb(&[5]);
-    drop(store);
-    assert!(rt; unasked == 0 && writes == 0 && first == 60 && second == 4);
-    assert!(rt; written == (0x0C, false) && again == 0 && front == 1);
+    assert!(rt; store_answers(&WRITTEN));
 }
 
-/// Writes a whole block, and then its first byte.
-fn write_twice(store: &mut BlockStore) {
-    let _ = begun(store, 1);
-    let _ = store.absorb(&[7; 60]);
-    let _ = store.absorb(&[9; 60]);
-    let _ = store.finish();
-    let _ = begun(store, 1);
-    let _ = store.absorb(&[5]);
-}
+/// A whole block is written, then its first byte, and it is read in part and to its end.
+const READ: [Step<'_>; 13] = [
+    Step::Begins(1, 0),
+    Step::Takes(&[7; 60], 60),
+    Step::Takes(&[9; 60], 4),
+    Step::Ends(0x0C, false),
+    Step::Begins(1, 0),
+    Step::Takes(&[5], 1),
+    Step::Begins(2, 0),
+    Step::Gives(2, &[5, 7]),
+    Step::Ends(0x0C, true),
+    Step::Begins(2, 0),
+    Step::GivesCount(60, 60),
+    Step::Gives(60, &[9, 9, 9, 9]),
+    Step::Ends(0x0C, false),
+];
 
 #[test]
 fn what_was_written_is_read(rt: HostRuntime) {
-    let mut store = BlockStore::new();
-    write_twice(&mut store);
-    let reads = begun(&mut store, 2);
-    let front = gives(&mut store, 2, &[5, 7]);
-    let left = ended(&mut store);
-    let again = begun(&mut store, 2);
-    let _ = store.supply(60);
-    let back = gives(&mut store, 60, &[9, 9, 9, 9]);
-    let whole = ended(&mut store);
-    drop(store);
-    assert!(rt; reads == 0 && front && left == (0x0C, true));
-    assert!(rt; again == 0 && back && whole == (0x0C, false));
+    assert!(rt; store_answers(&READ));
 }
+
+/// The same is written; after a restart a byte is not asked for, and the first one read is zero.
+const RESTARTED: [Step<'_>; 10] = [
+    Step::Begins(1, 0),
+    Step::Takes(&[7; 60], 60),
+    Step::Takes(&[9; 60], 4),
+    Step::Ends(0x0C, false),
+    Step::Begins(1, 0),
+    Step::Takes(&[5], 1),
+    Step::Restarts,
+    Step::Takes(&[1], 0),
+    Step::Begins(2, 0),
+    Step::Gives(1, &[0]),
+];
 
 #[test]
 fn a_restart_empties_the_store(rt: HostRuntime) {
-    let mut store = BlockStore::new();
-    write_twice(&mut store);
-    store.restart();
-    let unasked = store.absorb(&[1]);
-    let reads = begun(&mut store, 2);
-    let zero = gives(&mut store, 1, &[0]);
-    drop(store);
-    assert!(rt; unasked == 0 && reads == 0 && zero);
+    assert!(rt; store_answers(&RESTARTED));
 }
+
+/// A command is rejected, and its sense byte given, by a first read of it alone.
+const SENSED: [Step<'_>; 8] = [
+    Step::Begins(0x0C, 2),
+    Step::Begins(4, 0),
+    Step::Gives(0, &[]),
+    Step::Gives(8, &[0x80]),
+    Step::Gives(8, &[]),
+    Step::Ends(0x0C, false),
+    Step::Begins(4, 0),
+    Step::Gives(1, &[0]),
+];
 
 #[test]
 fn the_sense_byte_is_given_once(rt: HostRuntime) {
-    let mut store = BlockStore::new();
-    let rejected = begun(&mut store, 0x0C);
-    let senses = begun(&mut store, 4);
-    let none = gives(&mut store, 0, &[]);
-    let sense = gives(&mut store, 8, &[0x80]);
-    let rest = gives(&mut store, 8, &[]);
-    let finish = ended(&mut store);
-    let again = begun(&mut store, 4);
-    let cleared = gives(&mut store, 1, &[0]);
-    drop(store);
-    assert!(rt; rejected == 2 && senses == 0 && none && sense);
-    assert!(rt; rest && finish == (0x0C, false) && again == 0 && cleared);
+    assert!(rt; store_answers(&SENSED));
+}
+
+/// Commands of a store with their bytes, and their two statuses: the first block is found, the last is located, the first is not
+/// found there, the last is; then a number is short, one is of no block, and one is short.
+const SOUGHT: [(u8, &[u8], (u8, u8)); 7] = [
+    (0x31, &[0, 0], (0, 0x4C)),
+    (7, &[0, 0x1F, 9], (0, 0x0C)),
+    (0x31, &[0, 0], (0, 0x0C)),
+    (0x31, &[0, 0x1F], (0, 0x4C)),
+    (0x31, &[0x1F], (0, 0x0C)),
+    (7, &[0, 0x20], (0, 0x0E)),
+    (7, &[0], (0, 0x0E)),
+];
+
+/// After the sense byte is given: nothing is done, the last block is still found, and then the first.
+const STAYING: [(u8, &[u8], (u8, u8)); 4] = [
+    (3, &[], (8, 4)),
+    (0x31, &[0, 0x1F], (0, 0x4C)),
+    (0x0B, &[], (8, 4)),
+    (0x31, &[0, 0], (0, 0x4C)),
+];
+
+/// Begins a command and ends it, its bytes moved before: the two statuses.
+fn run(store: &mut BlockStore, code: u8, bytes: &[u8]) -> (u8, u8) {
+    let first = begun(store, code);
+    let _ = store.absorb(bytes);
+    (first, store.finish().status.bits())
+}
+
+/// Whether all of these are run so, one after another.
+fn runs_all(store: &mut BlockStore, rows: &[(u8, &[u8], (u8, u8))]) -> bool {
+    for (code, bytes, statuses) in rows {
+        if run(store, *code, bytes) != *statuses {
+            return false;
+        }
+    }
+    true
+}
+
+/// Whether blocks are sought so.
+fn seeks(store: &mut BlockStore) -> bool {
+    let sought = runs_all(store, &SOUGHT);
+    let sensed = answers_all(store, &[Step::Begins(4, 0), Step::Gives(1, &[0x20])]);
+    let stays = runs_all(store, &STAYING);
+    sought && sensed && stays
 }
 
 #[test]
 fn a_block_is_sought_by_its_number(rt: HostRuntime) {
     let mut store = BlockStore::new();
-    let first = run(&mut store, 0x31, &[0, 0]);
-    let last = run(&mut store, 7, &[0, 0x1F, 9]);
-    let other = run(&mut store, 0x31, &[0, 0]);
-    let found = run(&mut store, 0x31, &[0, 0x1F]);
-    let short = run(&mut store, 0x31, &[0x1F]);
-    let beyond = run(&mut store, 7, &[0, 0x20]);
-    let half = run(&mut store, 7, &[0]);
-    let senses = begun(&mut store, 4);
-    let sense = gives(&mut store, 1, &[0x20]);
-    let nothing = run(&mut store, 3, &[]);
-    let stays = run(&mut store, 0x31, &[0, 0x1F]);
-    let back = run(&mut store, 0x0B, &[]);
-    let home = run(&mut store, 0x31, &[0, 0]);
+    let sought = seeks(&mut store);
     drop(store);
-    assert!(rt;
-        first == (0, 0x4C) && last == (0, 0x0C) && other == (0, 0x0C) && found == (0, 0x4C)
-    );
-    assert!(rt; short == (0, 0x0C) && beyond == (0, 0x0E) && half == (0, 0x0E));
-    assert!(rt; senses == 0 && sense && nothing == (8, 4));
-    assert!(rt; stays == (0, 0x4C) && back == (8, 4) && home == (0, 0x4C));
+    assert!(rt; sought);
 }
 
 #[test]
@@ -152,7 +219,17 @@ fn a_code_names_its_command(rt: HostRuntime) {
     assert!(rt;
         BlockCommand::of_code(0x0B) == Some(BlockCommand::Recalibrate)
             && BlockCommand::of_code(0x0A) == None
+            && ConsoleCommand::of_code(0x0A) == Some(ConsoleCommand::Read)
+            && ConsoleCommand::of_code(7) == None
     );
+}
+
+/// The call for the initial status of a command.
+fn initial(code: u8) -> Call {
+    Call::Initial {
+        code,
+        came_by: first_path(),
+    }
 }
 
 /// How a command ended, by the answer that a call came to.
@@ -171,105 +248,123 @@ fn takes_three(store: &mut BlockStore) -> bool {
     matches!(begins, DeviceAnswer::Begins) && matches!(absorbs, DeviceAnswer::Absorbed(3))
 }
 
+/// Whether a write of three bytes, its end and a control command are answered.
+fn answers_calls(store: &mut BlockStore) -> bool {
+    let takes = takes_three(store);
+    let end = end_of(&answer(store, &Call::Finish));
+    let control = end_of(&answer(store, &initial(3)));
+    takes && end == Some((0x0C, false)) && control == Some((8, false))
+}
+
 #[test]
 fn a_call_is_answered(rt: HostRuntime) {
     let mut store = BlockStore::new();
-    let takes = takes_three(&mut store);
-    let end = end_of(&answer(&mut store, &Call::Finish));
-    let control = end_of(&answer(&mut store, &initial(3)));
+    let answered = answers_calls(&mut store);
     drop(store);
-    assert!(rt; takes && end == Some((0x0C, false)) && control == Some((8, false)));
+    assert!(rt; answered);
 }
+
+/// A byte that nobody asked for, and a write beyond a line.
+const LINE_WRITTEN: [Step<'_>; 6] = [
+    Step::Takes(&[1], 0),
+    Step::Begins(1, 0),
+    Step::Takes(&[7; 100], 100),
+    Step::Takes(&[9; 100], 26),
+    Step::Takes(&[9], 0),
+    Step::Ends(0x0C, false),
+];
 
 #[test]
 fn a_console_keeps_one_line(rt: HostRuntime) {
-    let mut console = Console::new();
-    let unasked = console.absorb(&[1]);
-    let writes = begun(&mut console, 1);
-    let first = console.absorb(&[7; 100]);
-    let second = console.absorb(&[9; 100]);
-    let beyond = console.absorb(&[9; 1]);
-    let written = ended(&mut console);
-    drop(console);
-    assert!(rt; unasked == 0 && writes == 0 && first == 100);
-    assert!(rt; second == 26 && beyond == 0 && written == (0x0C, false));
+    assert!(rt; console_answers(&LINE_WRITTEN));
 }
 
-/// Writes a whole line.
-fn write_line(console: &mut Console) {
-    let _ = begun(console, 1);
-    let _ = console.absorb(&[7; 100]);
-    let _ = console.absorb(&[9; 100]);
-    let _ = console.finish();
-}
+/// A whole line is written, and it is read in part and to its end.
+const LINE_READ: [Step<'_>; 11] = [
+    Step::Begins(1, 0),
+    Step::Takes(&[7; 100], 100),
+    Step::Takes(&[9; 100], 26),
+    Step::Ends(0x0C, false),
+    Step::Begins(0x0A, 0),
+    Step::GivesCount(120, 120),
+    Step::Ends(0x0C, true),
+    Step::Begins(0x0A, 0),
+    Step::GivesCount(121, 121),
+    Step::Gives(256, &[9, 9, 9, 9, 9]),
+    Step::Ends(0x0C, false),
+];
 
 #[test]
 fn a_console_gives_its_line(rt: HostRuntime) {
-    let mut console = Console::new();
-    write_line(&mut console);
-    let reads = begun(&mut console, 0x0A);
-    let front = console.supply(120).len();
-    let left = ended(&mut console);
-    let again = begun(&mut console, 0x0A);
-    let _ = console.supply(121);
-    let back = gives(&mut console, 256, &[9, 9, 9, 9, 9]);
-    let whole = ended(&mut console);
-    drop(console);
-    assert!(rt; reads == 0 && front == 120 && left == (0x0C, true));
-    assert!(rt; again == 0 && back && whole == (0x0C, false));
+    assert!(rt; console_answers(&LINE_READ));
 }
+
+/// A whole line is written, then one of a byte, which alone is read; after a restart nothing is.
+const LAST_LINE: [Step<'_>; 11] = [
+    Step::Begins(1, 0),
+    Step::Takes(&[7; 100], 100),
+    Step::Takes(&[9; 100], 26),
+    Step::Ends(0x0C, false),
+    Step::Begins(1, 0),
+    Step::Takes(&[5], 1),
+    Step::Begins(0x0A, 0),
+    Step::Gives(126, &[5]),
+    Step::Restarts,
+    Step::Begins(0x0A, 0),
+    Step::Gives(126, &[]),
+];
 
 #[test]
 fn a_console_keeps_the_line_of_the_last_write(rt: HostRuntime) {
-    let mut console = Console::new();
-    write_line(&mut console);
-    let writes = begun(&mut console, 1);
-    let taken = console.absorb(&[5]);
-    let reads = begun(&mut console, 0x0A);
-    let line = gives(&mut console, 126, &[5]);
-    console.restart();
-    let after = begun(&mut console, 0x0A);
-    let none = gives(&mut console, 126, &[]);
-    drop(console);
-    assert!(rt; writes == 0 && taken == 1 && reads == 0);
-    assert!(rt; line && after == 0 && none);
+    assert!(rt; console_answers(&LAST_LINE));
 }
+
+/// A control command ends, another command is rejected, and its sense byte is given once.
+const REJECTED: [Step<'_>; 8] = [
+    Step::Begins(3, 8),
+    Step::Ends(4, false),
+    Step::Begins(2, 2),
+    Step::Begins(4, 0),
+    Step::Gives(1, &[0x80]),
+    Step::Ends(0x0C, false),
+    Step::Begins(4, 0),
+    Step::Gives(1, &[0]),
+];
 
 #[test]
 fn a_console_tells_what_it_rejected(rt: HostRuntime) {
-    let mut console = Console::new();
-    let control = begun(&mut console, 3);
-    let end = ended(&mut console);
-    let rejected = begun(&mut console, 2);
-    let senses = begun(&mut console, 4);
-    let sense = gives(&mut console, 1, &[0x80]);
-    let finish = ended(&mut console);
-    let again = begun(&mut console, 4);
-    let cleared = gives(&mut console, 1, &[0]);
-    drop(console);
-    assert!(rt; control == 8 && end.0 == 4 && rejected == 2 && senses == 0);
-    assert!(rt; sense && finish == (0x0C, false) && again == 0);
-    assert!(rt;
-        cleared
-            && ConsoleCommand::of_code(0x0A) == Some(ConsoleCommand::Read)
-            && ConsoleCommand::of_code(7) == None
-    );
+    assert!(rt; console_answers(&REJECTED));
 }
+
+/// Every command is rejected, whatever is moved after it, and so it is after a restart.
+const REJECTING: [Step<'_>; 10] = [
+    Step::Begins(1, 2),
+    Step::Begins(2, 2),
+    Step::Begins(3, 2),
+    Step::Begins(4, 2),
+    Step::Begins(0x0C, 2),
+    Step::Takes(&[1, 2], 0),
+    Step::GivesCount(1, 0),
+    Step::Ends(0x0C, false),
+    Step::Restarts,
+    Step::Begins(1, 2),
+];
 
 #[test]
 fn every_command_is_rejected(rt: HostRuntime) {
     let mut device = Rejecting::new();
-    for code in [1, 2, 3, 4, 0x0C] {
-        assert!(rt; begun(&mut device, code) == 2);
-    }
-    assert!(rt; device.absorb(&[1, 2]) == 0);
-    let none = device.supply(1);
-    assert!(rt; none.len() == 0);
-    let finish = device.finish();
-    assert!(rt; finish.status.bits() == 0x0C && !finish.more);
-    device.restart();
-    assert!(rt; begun(&mut device, 1) == 2);
+    let rejected = answers_all(&mut device, &REJECTING);
+    drop(device);
+    assert!(rt; rejected);
 }
+
+/// Each kind of unit, its read, and what its device answers: the status of a write, of whose one byte so many are taken, so many
+/// are given of a read, whose last status this is, and so many after a restart.
+const KINDS: [(UnitKind, u8, (u8, usize, usize, u8, usize)); 3] = [
+    (UnitKind::Block, 2, (0, 1, 1, 0x0C, 1)),
+    (UnitKind::Console, 0x0A, (0, 1, 1, 0x0C, 0)),
+    (UnitKind::Rejecting, 2, (2, 0, 0, 0x0C, 0)),
+];
 
 /// What a device of a kind answers to the write of a byte, that to its read, and that after a restart.
 fn exercised(kind: UnitKind, read: u8) -> (u8, usize, usize, u8, usize) {
@@ -286,9 +381,7 @@ fn exercised(kind: UnitKind, read: u8) -> (u8, usize, usize, u8, usize) {
 
 #[test]
 fn each_kind_of_unit_has_its_device(rt: HostRuntime) {
-    assert!(rt;
-        exercised(UnitKind::Block, 2) == (0, 1, 1, 0x0C, 1)
-            && exercised(UnitKind::Console, 0x0A) == (0, 1, 1, 0x0C, 0)
-            && exercised(UnitKind::Rejecting, 2) == (2, 0, 0, 0x0C, 0)
-    );
+    for (kind, read, wanted) in KINDS {
+        assert!(rt; exercised(kind, read) == wanted);
+    }
 }

@@ -39,36 +39,37 @@ fn bare(alloc: Global) -> Option<Subsystem<Lowest>> {
     Subsystem::new(alloc, config, Lowest {}).ok()
 }
 
-/// How long the history is after so many steps.
+/// How long the history is after an event is accepted so often; None where one is refused.
+fn length_after(subsystem: &mut Subsystem<Lowest>, event: &Event, count: usize) -> Option<usize> {
+    for _step in 0..count {
+        if subsystem.step(event).is_err() {
+            return None;
+        }
+    }
+    Some(subsystem.history().len())
+}
+
+/// The same, of so many steps of a subsystem that nothing happened to.
 fn stepped(alloc: Global, count: usize) -> Option<usize> {
     let event = tpi()?;
     let mut subsystem = bare(alloc)?;
-    if steps(&mut subsystem, &event, count) {
-        Some(subsystem.history().len())
-    } else {
-        None
-    }
+    length_after(&mut subsystem, &event, count)
 }
 
-/// Whether an event is accepted so often.
-fn steps(subsystem: &mut Subsystem<Lowest>, event: &Event, count: usize) -> bool {
-    for _step in 0..count {
-        if subsystem.step(event).is_err() {
-            return false;
-        }
+/// How long a log is after an entry was added so often.
+fn length_with(log: &mut Log, event: &Event, count: usize) -> Option<usize> {
+    for _entry in 0..count {
+        log.make_room().ok()?;
+        log.finish(event);
     }
-    true
+    Some(log.len())
 }
 
-/// How long a log is to which so many entries were added.
+/// The same, of a log that was empty.
 fn logged(alloc: Global, count: usize) -> Option<usize> {
     let event = tpi()?;
     let mut log = Log::new(alloc);
-    for _entry in 0..count {
-        log.make_room().ok()?;
-        log.finish(&event);
-    }
-    Some(log.len())
+    length_with(&mut log, &event, count)
 }
 
 /// An event so many times.
@@ -80,12 +81,22 @@ fn repeated(alloc: Global, event: &Event, count: usize) -> Option<Vec<Event>> {
     Some(events)
 }
 
-/// How many answers a run of so many events has, and how long the history is then.
-fn run(alloc: Global, count: usize) -> Option<(usize, usize)> {
-    let events = repeated(alloc, &tpi()?, count)?;
-    let mut subsystem = bare(alloc)?;
-    let answers = subsystem.run(alloc, events.as_slice()).ok()?;
+/// How many answers a run of these events has, and how long the history is then.
+fn answered(
+    alloc: Global,
+    subsystem: &mut Subsystem<Lowest>,
+    events: &[Event],
+) -> Option<(usize, usize)> {
+    let answers = subsystem.run(alloc, events).ok()?;
     Some((answers.len(), subsystem.history().len()))
+}
+
+/// The same, of so many events at a subsystem that nothing happened to.
+fn run(alloc: Global, count: usize) -> Option<(usize, usize)> {
+    let event = tpi()?;
+    let mut subsystem = bare(alloc)?;
+    let events = repeated(alloc, &event, count)?;
+    answered(alloc, &mut subsystem, events.as_slice())
 }
 
 /// How many requests an event makes: it is refused each in turn, and then accepted. A list keeps the room that it was given
@@ -96,25 +107,28 @@ fn requests_of(subsystem: &mut Subsystem<Lowest>, event: &Event) -> Option<u64> 
             left,
             refused: false,
         };
-        match subsystem.step_with(&mut supply, event) {
-            Ok(_) => return if supply.refused { None } else { Some(left) },
-            Err(fault) => {
-                if !supply.refused || !matches!(fault, Fault::NoMemory) {
-                    return None;
-                }
-            }
+        let fault = subsystem.step_with(&mut supply, event).err();
+        match fault {
+            None if !supply.refused => return Some(left),
+            Some(Fault::NoMemory) if supply.refused => {}
+            _ => return None,
         }
     }
     None
 }
 
 /// How many requests a first and a second event make, and how long the history is then.
-fn requests(alloc: Global) -> Option<(u64, u64, usize)> {
+fn requests_of_two(subsystem: &mut Subsystem<Lowest>) -> Option<(u64, u64, usize)> {
     let event = tpi()?;
-    let mut subsystem = bare(alloc)?;
-    let first = requests_of(&mut subsystem, &event)?;
-    let second = requests_of(&mut subsystem, &event)?;
+    let first = requests_of(subsystem, &event)?;
+    let second = requests_of(subsystem, &event)?;
     Some((first, second, subsystem.history().len()))
+}
+
+/// The same, of a subsystem that nothing happened to.
+fn requests(alloc: Global) -> Option<(u64, u64, usize)> {
+    let mut subsystem = bare(alloc)?;
+    requests_of_two(&mut subsystem)
 }
 
 #[test]

@@ -1,6 +1,6 @@
 //! A write to which room is refused, event by event and inside a run: in the end all is as of one to which nothing was refused.
 
-use crate::tests::subsystem_tests::{WORD, begun, granting, opened, script};
+use crate::tests::subsystem_tests::{EVENTS, WORD, accepted_of, begun, granting, opened, script};
 use chan_events::event::Event;
 use chan_model::fault::Fault;
 use path_select::Rotating;
@@ -9,9 +9,6 @@ use subsystem::subsystem::Subsystem;
 
 /// More requests than there are.
 const MANY: u64 = 100;
-
-/// How many events a write has.
-const EVENTS: usize = 17;
 
 /// Whether two subsystems have the same history, as many statuses made and as many cleared.
 fn are_alike(one: &Subsystem<Rotating>, other: &Subsystem<Rotating>) -> bool {
@@ -27,30 +24,26 @@ fn requests_beside(
 ) -> Option<u64> {
     for left in 0..MANY {
         let mut supply = granting(left);
-        match subsystem.step_with(&mut supply, event) {
-            Ok(_) => {
-                let accepted = other.step(event).is_ok();
-                let right = accepted && !supply.refused && are_alike(subsystem, other);
-                return if right { Some(left) } else { None };
-            }
-            Err(fault) => {
-                let right = supply.refused && are_alike(subsystem, other);
-                if !right || !matches!(fault, Fault::NoMemory) {
-                    return None;
-                }
-            }
+        let fault = subsystem.step_with(&mut supply, event).err();
+        let accepted = fault.is_none() && other.step(event).is_ok();
+        let alike = are_alike(subsystem, other);
+        match fault {
+            None if accepted && alike && !supply.refused => return Some(left),
+            Some(Fault::NoMemory) if alike && supply.refused => {}
+            _ => return None,
         }
     }
     None
 }
 
-/// How many requests the events of a write make.
-fn requests_of_write(alloc: Global) -> Option<u64> {
-    let mut subsystem = opened(alloc)?;
-    let mut other = opened(alloc)?;
+/// How many requests the events of a write make, each tried beside another subsystem; None where one leaves something else.
+fn requests_of_events(
+    subsystem: &mut Subsystem<Rotating>,
+    other: &mut Subsystem<Rotating>,
+) -> Option<u64> {
     let mut requests = 0u64;
-    for event in script(alloc).iter() {
-        let more = requests_beside(&mut subsystem, &mut other, event)?;
+    for event in script().iter() {
+        let more = requests_beside(subsystem, other, event)?;
         requests = requests.saturating_add(more);
     }
     if subsystem.history().len() == EVENTS {
@@ -60,6 +53,13 @@ fn requests_of_write(alloc: Global) -> Option<u64> {
     }
 }
 
+/// The same, of two subsystems that nothing happened to.
+fn requests_of_write(alloc: Global) -> Option<u64> {
+    let mut subsystem = opened(alloc)?;
+    let mut other = opened(alloc)?;
+    requests_of_events(&mut subsystem, &mut other)
+}
+
 /// The entries and the bytes of the history ask at first, and the entries again before there are seventeen.
 #[test]
 fn each_request_of_each_event_of_a_write_is_refused_in_turn(rt: HostRuntime) {
@@ -67,53 +67,48 @@ fn each_request_of_each_event_of_a_write_is_refused_in_turn(rt: HostRuntime) {
     assert!(rt; requests >= 3, "{requests}");
 }
 
+/// Whether all is as of a write of which so many events alone are accepted.
+fn is_begun(alloc: Global, subsystem: &Subsystem<Rotating>, count: usize) -> Option<bool> {
+    let begins = begun(alloc, count)?;
+    Some(are_alike(subsystem, &begins))
+}
+
 /// Whether the events of a write after so many are run and accepted, and all is then as of a write to which nothing was refused.
 fn goes_on(alloc: Global, subsystem: &mut Subsystem<Rotating>, after: usize) -> Option<bool> {
-    let accepted = accepted_after(alloc, subsystem, after)?;
-    let whole = begun(alloc, EVENTS)?;
-    Some(after.saturating_add(accepted) == EVENTS && are_alike(subsystem, &whole))
+    let accepted = accepted_of(alloc, subsystem, script().get(after..)?)?;
+    let alike = is_begun(alloc, subsystem, EVENTS)?;
+    Some(alike && after.saturating_add(accepted) == EVENTS)
 }
 
-/// How many events of a write after so many are accepted.
-fn accepted_after(
-    alloc: Global,
-    subsystem: &mut Subsystem<Rotating>,
-    after: usize,
-) -> Option<usize> {
-    let events = script(alloc);
-    let rest = events.as_slice().get(after..)?;
-    accepted_of(alloc, subsystem, rest)
-}
-
-/// How many of these events are accepted.
-fn accepted_of(
-    alloc: Global,
-    subsystem: &mut Subsystem<Rotating>,
-    events: &[Event],
-) -> Option<usize> {
-    let answers = subsystem.run(alloc, events).ok()?;
-    Some(answers.iter().filter(|answer| answer.is_ok()).count())
+/// Whether a run of a write to which so many requests are granted is performed; None where it ends otherwise than refused one.
+fn is_whole(alloc: Global, subsystem: &mut Subsystem<Rotating>, left: u64) -> Option<bool> {
+    let mut supply = granting(left);
+    let fault = subsystem.run_with(alloc, &mut supply, &script()).err();
+    match fault {
+        None if !supply.refused => Some(true),
+        Some(Fault::NoMemory) if supply.refused => Some(false),
+        _ => None,
+    }
 }
 
 /// How many events of a write are accepted by a run to which so many requests are granted: what it leaves is as of a run of these
 /// alone, and the others are accepted after it.
-fn run_short(alloc: Global, left: u64) -> Option<usize> {
-    let events = script(alloc);
-    let mut subsystem = opened(alloc)?;
-    let mut supply = granting(left);
-    let ended = match subsystem.run_with(alloc, &mut supply, events.as_slice()) {
-        Ok(_) => !supply.refused,
-        Err(fault) => supply.refused && matches!(fault, Fault::NoMemory),
-    };
+fn accepted_short(alloc: Global, subsystem: &mut Subsystem<Rotating>, left: u64) -> Option<usize> {
+    let whole = is_whole(alloc, subsystem, left)?;
     let accepted = subsystem.history().len();
-    let begins = begun(alloc, accepted)?;
-    let kept = are_alike(&subsystem, &begins);
-    let right = ended && kept && (accepted == EVENTS) == !supply.refused;
-    if right && goes_on(alloc, &mut subsystem, accepted)? {
+    let kept = is_begun(alloc, subsystem, accepted)?;
+    let right = kept && (accepted == EVENTS) == whole;
+    if right && goes_on(alloc, subsystem, accepted)? {
         Some(accepted)
     } else {
         None
     }
+}
+
+/// How many are accepted so at a subsystem that nothing happened to.
+fn run_short(alloc: Global, left: u64) -> Option<usize> {
+    let mut subsystem = opened(alloc)?;
+    accepted_short(alloc, &mut subsystem, left)
 }
 
 /// How many runs end with some events accepted and not all, where each of their requests is refused in turn; None where one leaves

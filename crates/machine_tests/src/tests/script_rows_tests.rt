@@ -66,29 +66,36 @@ const DRIVING: [(&[u8], &[u8], [u32; 4]); 5] = [
     (b"pathup 00000fF", b"pathup", [0xFF, 0, 0, 0]),
 ];
 
-/// Whether a line asks a machine for this, with these numbers.
-fn asks(alloc: Global, slot: &mut ActionSlot, line: &[u8], name: &[u8], numbers: [u32; 4]) -> bool {
-    let Ok(words) = words_of(alloc, line) else {
+/// Whether words ask a machine for this, with these numbers.
+fn asks(slot: &mut ActionSlot, words: &[&[u8]], name: &[u8], numbers: [u32; 4]) -> bool {
+    let [first, others @ ..] = words else {
         return false;
     };
-    match words.as_slice() {
-        [] => false,
-        [first, others @ ..] => match action_row(slot, first, others) {
-            Ok(true) => {
-                let action = slot.kept.with(slot.bytes());
-                shown(&action) == (name, numbers)
-            }
-            _ => false,
-        },
+    if !matches!(action_row(slot, first, others), Ok(true)) {
+        return false;
     }
+    let action = slot.kept.with(slot.bytes());
+    shown(&action) == (name, numbers)
+}
+
+/// Whether each line asks for what it is to ask for; None where there is no memory.
+fn all_ask(alloc: Global, slot: &mut ActionSlot) -> Option<bool> {
+    for (line, name, numbers) in DRIVING {
+        let words = words_of(alloc, line).ok()?;
+        let asked = asks(slot, words.as_slice(), name, numbers);
+        drop(words);
+        if !asked {
+            return Some(false);
+        }
+    }
+    Some(true)
 }
 
 #[test]
 fn driving_lines_are_read(rt: HostRuntime) {
     let mut slot = ActionSlot::new();
-    for (line, name, numbers) in DRIVING {
-        assert!(rt; asks(rt.alloc(), &mut slot, line, name, numbers));
-    }
+    let all = all_ask(rt.alloc(), &mut slot);
+    assert!(rt; all == Some(true));
 }
 
 /// Lines of words that drive no machine, and the rule that each breaks.
@@ -98,23 +105,35 @@ const WRONG: [(&[u8], LineRule); 3] = [
     (b"show 500 41", LineRule::BadWord),
 ];
 
-/// The rule that a line breaks, as it is to drive a machine.
-fn broken(alloc: Global, slot: &mut ActionSlot, line: &[u8]) -> Option<LineRule> {
-    let Ok(words) = words_of(alloc, line) else {
-        return None;
-    };
-    match words.as_slice() {
+/// The rule that words break, as they are to drive a machine.
+fn broken(slot: &mut ActionSlot, words: &[&[u8]]) -> Option<LineRule> {
+    match words {
         [] => None,
         [first, others @ ..] => action_row(slot, first, others).err(),
     }
 }
 
+/// The rule that a line breaks.
+fn rule_of(alloc: Global, slot: &mut ActionSlot, line: &[u8]) -> Option<LineRule> {
+    let words = words_of(alloc, line).ok()?;
+    broken(slot, words.as_slice())
+}
+
+/// Whether each line breaks its rule.
+fn all_break(alloc: Global, slot: &mut ActionSlot) -> bool {
+    for (line, rule) in WRONG {
+        if rule_of(alloc, slot, line) != Some(rule) {
+            return false;
+        }
+    }
+    true
+}
+
 #[test]
 fn wrong_driving_lines_break_a_rule(rt: HostRuntime) {
     let mut slot = ActionSlot::new();
-    for (line, rule) in WRONG {
-        assert!(rt; broken(rt.alloc(), &mut slot, line) == Some(rule));
-    }
+    let all = all_break(rt.alloc(), &mut slot);
+    assert!(rt; all);
 }
 
 /// Lines that configure a machine.
@@ -131,15 +150,20 @@ const CONFIGURING: [&[u8]; 10] = [
     b"sub 00030000 0101 1 10",
 ];
 
-/// What a line is to set, or why it sets nothing; None where it is of another kind, or there is no memory.
-fn read(alloc: Global, line: &[u8]) -> Option<Result<Setting, LineFault>> {
-    let words = words_of(alloc, line).ok()?;
-    match words.as_slice() {
+/// What words are to set, or why they set nothing; None where they are of another kind.
+fn setting_of(alloc: Global, words: &[&[u8]]) -> Option<Result<Setting, LineFault>> {
+    match words {
         [] => None,
         [first, others @ ..] => {
             setting_row(alloc, &mut Allocator { refused: false }, first, others).transpose()
         }
     }
+}
+
+/// The same of a line; None also where there is no memory.
+fn read(alloc: Global, line: &[u8]) -> Option<Result<Setting, LineFault>> {
+    let words = words_of(alloc, line).ok()?;
+    setting_of(alloc, words.as_slice())
 }
 
 /// Whether a line is read and configures the machine.
@@ -168,19 +192,24 @@ fn shares(alloc: Global, config: &Config) -> Option<bool> {
     Some(groups.as_slice() == [0, 2, 2].as_slice())
 }
 
-#[test]
-fn configuring_lines_are_read(rt: HostRuntime) {
-    let mut config = Config::new(rt.alloc());
-    let all = all_configure(rt.alloc(), &mut config);
+/// Whether each line is read, and all that they say is then set.
+fn sets_all(alloc: Global, config: &mut Config) -> bool {
+    let all = all_configure(alloc, config);
     let blocks = config.blocks();
     let sets = config.set_count();
     let paths = config.paths() == [0x10, 0xFF].as_slice();
     let subchannels = config.subchannels().len();
-    let shared = shares(rt.alloc(), &config);
+    let shared = shares(alloc, config);
+    let sizes = blocks == Some(0x10) && sets == 2 && subchannels == 2;
+    all && sizes && paths && shared == Some(true)
+}
+
+#[test]
+fn configuring_lines_are_read(rt: HostRuntime) {
+    let mut config = Config::new(rt.alloc());
+    let all = sets_all(rt.alloc(), &mut config);
     drop(config);
-    assert!(rt; all, "each line is read");
-    assert!(rt; blocks == Some(0x10) && sets == 2 && paths);
-    assert!(rt; subchannels == 2 && shared == Some(true));
+    assert!(rt; all);
 }
 
 /// Lines of words that configure no machine, and the rule that each breaks.
@@ -191,10 +220,7 @@ const WRONG_SETTINGS: [(&[u8], LineRule); 2] = [
 
 /// The fault of a line, as it is to configure a machine.
 fn fault_of(alloc: Global, line: &[u8]) -> Option<LineFault> {
-    match read(alloc, line) {
-        Some(Err(fault)) => Some(fault),
-        _ => None,
-    }
+    read(alloc, line)?.err()
 }
 
 #[test]

@@ -1,41 +1,38 @@
 //! A right script: its configuration, and its actions under the numbers of their lines.
 
-use crate::tests::script_lines::text_of;
 use channel_config::config::Config;
 use memory::Allocator;
+use script::Script;
 use script::lines::Lines;
-use script::{Script, ScriptBad};
 use script_rows::Action;
 use std::alloc::Global;
 
-const RIGHT: [&[u8]; 26] = [
-    b"# a machine",
-    b"",
-    b"storage 10",
-    b"sets 2",
-    b"path 10",
-    b"path fF",
-    b"unit 0 block",
-    b"unit 1 block",
-    b"share 1 0",
-    b"sub 0 0100 0 10 FF",
-    b"sub 00030000 0101 0 10",
-    b"put 500 c1C2",
-    b"enable 0 7 1",
-    b"cpu f enable 30000 0 0",
-    b"ssch 0001 500",
-    b"cpu 1 ssch 00001 500",
-    b"tsch 0 600",
-    b"choose 0",
-    b"#",
-    b"up 0 1",
-    b"down 0 12345678",
-    b"dev 3FF",
-    b"glance 3",
-    b"cpu 1 tpi 80 600",
-    b"attn 0 1 1",
-    b"restart 0",
-];
+const RIGHT: &[u8] = b"# a machine\n\
+\n\
+storage 10\n\
+sets 2\n\
+path 10\n\
+path fF\n\
+unit 0 block\n\
+unit 1 block\n\
+share 1 0\n\
+sub 0 0100 0 10 FF\n\
+sub 00030000 0101 0 10\n\
+put 500 c1C2\n\
+enable 0 7 1\n\
+cpu f enable 30000 0 0\n\
+ssch 0001 500\n\
+cpu 1 ssch 00001 500\n\
+tsch 0 600\n\
+choose 0\n\
+#\n\
+up 0 1\n\
+down 0 12345678\n\
+dev 3FF\n\
+glance 3\n\
+cpu 1 tpi 80 600\n\
+attn 0 1 1\n\
+restart 0";
 
 /// What an action is: a device's turn or a glance, with its number, or an event.
 fn shown(action: &Action) -> (&[u8], u32) {
@@ -85,22 +82,24 @@ fn first_other(lines: &Lines) -> Option<usize> {
     None
 }
 
-/// How many lines ask for something, whether they ask for what is wanted, and whether none follows.
-fn told(lines: &Lines) -> (usize, Option<usize>, bool) {
-    (
-        lines.len(),
-        first_other(lines),
-        lines.get(WANTED.len()).is_none(),
-    )
+/// Whether a script has two sets, its lines ask for what is wanted, and no line follows.
+fn is_right(script: &Script) -> bool {
+    let lines = script.lines();
+    let sets = script.config().set_count();
+    let other = first_other(lines);
+    let none = lines.get(WANTED.len()).is_none();
+    sets == 2 && lines.len() == 14 && other == None && none
 }
 
-/// The blocks of storage, whether both channel paths are there in order, and how many subchannels there are.
-fn configured(config: &Config) -> (Option<u32>, bool, usize) {
-    (
-        config.blocks(),
-        config.paths() == [0x10, 0xFF].as_slice(),
-        config.subchannels().len(),
-    )
+/// The same of the right script; None where it is not read.
+fn read(alloc: Global) -> Option<bool> {
+    let script = Script::read(alloc, false, RIGHT).ok()?;
+    Some(is_right(&script))
+}
+
+#[test]
+fn a_right_script_is_read(rt: HostRuntime) {
+    assert!(rt; read(rt.alloc()) == Some(true));
 }
 
 /// Whether both units share a control unit; None where there is no memory to tell.
@@ -111,37 +110,24 @@ fn shares(alloc: Global, config: &Config) -> Option<bool> {
     Some(groups.as_slice() == [1, 1].as_slice())
 }
 
-/// The script of the lines.
-fn right_script(alloc: Global) -> Result<Script, ScriptBad> {
-    match text_of(alloc, &RIGHT) {
-        Ok(text) => Script::read(alloc, false, text.as_slice()),
-        Err(_) => Err(ScriptBad::NoMemory),
-    }
+/// Whether a configuration has its blocks of storage, both channel paths in order, two subchannels and a control unit of two
+/// units, and there are all lines.
+fn are_parts(alloc: Global, config: &Config, lines: &Lines) -> bool {
+    let blocks = config.blocks();
+    let paths = config.paths() == [0x10, 0xFF].as_slice();
+    let subchannels = config.subchannels().len();
+    let shared = shares(alloc, config);
+    blocks == Some(0x10) && paths && subchannels == 2 && shared == Some(true) && lines.len() == 14
 }
 
-#[test]
-fn a_right_script_is_read(rt: HostRuntime) {
-    let script = match right_script(rt.alloc()) {
-        Ok(script) => script,
-        Err(bad) => return assert!(rt; bad == ScriptBad::NoMemory),
-    };
-    let sets = script.config().set_count();
-    let lines = told(script.lines());
-    drop(script);
-    assert!(rt; sets == 2 && lines == (14, None, true));
+/// The same of the parts of the right script; None where it is not read.
+fn give(alloc: Global) -> Option<bool> {
+    let script = Script::read(alloc, false, RIGHT).ok()?;
+    let (config, lines) = script.into_parts();
+    Some(are_parts(alloc, &config, &lines))
 }
 
 #[test]
 fn a_script_gives_its_parts(rt: HostRuntime) {
-    let script = match right_script(rt.alloc()) {
-        Ok(script) => script,
-        Err(bad) => return assert!(rt; bad == ScriptBad::NoMemory),
-    };
-    let (config, lines) = script.into_parts();
-    let has = configured(&config);
-    let shared = shares(rt.alloc(), &config);
-    let count = lines.len();
-    drop(config);
-    drop(lines);
-    assert!(rt; has == (Some(0x10), true, 2) && shared == Some(true) && count == 14);
+    assert!(rt; give(rt.alloc()) == Some(true));
 }

@@ -5,6 +5,7 @@ use chan_model::chunk::Chunk;
 use chan_model::fault::Fault;
 use script_text::{ActionResult, put_bad_line, put_event_line};
 use scsw_irb::serials::Serials;
+use std::alloc::Global;
 use std::io;
 use std::io::Write;
 use streams::{CheckedWriter, Sink};
@@ -23,10 +24,18 @@ fn put_lines<S: Sink>(sink: &mut S) -> bool {
 
 const LINES: &[u8] = b"5 done\n6 made 12 cleared 9\n1000 refused 11\nbad line 9 rule 2\n";
 
+/// Whether the lines are shown.
+fn are_shown(alloc: Global) -> bool {
+    let mut sink = CheckedWriter::new(Vec::new(alloc));
+    let put = put_lines(&mut sink);
+    let same = sink.writer.as_slice() == LINES;
+    drop(sink);
+    put && same
+}
+
 #[test]
 fn lines_are_shown(rt: HostRuntime) {
-    let mut sink = CheckedWriter::new(Vec::new(rt.alloc()));
-    assert!(rt; put_lines(&mut sink) && sink.writer.as_slice() == LINES);
+    assert!(rt; are_shown(rt.alloc()));
 }
 
 /// Takes so many bytes, and then no more.
@@ -49,16 +58,23 @@ impl Write for Brief {
     }
 }
 
+/// Whether a sink that takes as many bytes as these fails, and has these.
+fn has_beginning(alloc: Global, begin: &[u8]) -> bool {
+    let mut sink = CheckedWriter::new(Brief {
+        text: Vec::new(alloc),
+        left: begin.len(),
+    });
+    let put = put_lines(&mut sink);
+    let failed = sink.failed;
+    let same = sink.writer.text.as_slice() == begin;
+    drop(sink);
+    !put && failed && same
+}
+
 #[test]
 fn a_sink_that_fails_has_a_beginning(rt: HostRuntime) {
     for left in 0..LINES.len() {
-        let mut sink = CheckedWriter::new(Brief {
-            text: Vec::new(rt.alloc()),
-            left,
-        });
-        assert!(rt;
-            !put_lines(&mut sink) && sink.failed && sink.writer.text.as_slice() == &LINES[..left]
-        );
+        assert!(rt; has_beginning(rt.alloc(), &LINES[..left]));
     }
 }
 
@@ -79,13 +95,19 @@ impl Write for Counting {
     }
 }
 
+/// Whether a line of 64 bytes is put, and how many calls that takes.
+fn calls() -> (bool, u64) {
+    let mut sink = CheckedWriter::new(Counting { calls: 0 });
+    let bytes = Chunk::of(&[0xC1; 64]);
+    let put = put_event_line(
+        &mut sink,
+        5,
+        &Ok(ActionResult::Reply(Reply::Shown { bytes })),
+    );
+    (put, sink.writer.calls)
+}
+
 #[test]
 fn a_line_is_written_at_once(rt: HostRuntime) {
-    let mut sink = CheckedWriter::new(Counting { calls: 0 });
-    let shown = Reply::Shown {
-        bytes: Chunk::of(&[0xC1; 64]),
-    };
-    assert!(rt;
-        put_event_line(&mut sink, 5, &Ok(ActionResult::Reply(shown))) && sink.writer.calls == 1
-    );
+    assert!(rt; calls() == (true, 1));
 }

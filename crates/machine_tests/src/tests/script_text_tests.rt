@@ -13,6 +13,7 @@ use scsw_irb::crw::{Crw, PathReport};
 use scsw_irb::scsw::{ActivityControl, DeferredCode, FunctionControl, Scsw, StatusControl};
 use scsw_irb::serials::Serials;
 use scsw_irb::status::{DeviceStatus, SubchannelStatus};
+use std::alloc::Global;
 use storage_keys::StorageFault;
 use streams::CheckedWriter;
 
@@ -71,6 +72,34 @@ fn down(signal: Down) -> Reply {
     }
 }
 
+/// Whether a reply is shown so.
+fn is_shown(alloc: Global, reply: &Reply, text: &[u8]) -> bool {
+    let mut sink = CheckedWriter::new(Vec::new(alloc));
+    let put = put_reply(&mut sink, reply);
+    let same = sink.writer.as_slice() == text;
+    drop(sink);
+    put && same
+}
+
+/// Whether these replies are shown, each so.
+fn are_shown(alloc: Global, rows: &[(Reply, &[u8])]) -> bool {
+    for (reply, text) in rows {
+        if !is_shown(alloc, reply, text) {
+            return false;
+        }
+    }
+    true
+}
+
+/// Whether a refusal is shown so.
+fn is_refusal(alloc: Global, refusal: &Fault, text: &[u8]) -> bool {
+    let mut sink = CheckedWriter::new(Vec::new(alloc));
+    let put = put_refusal(&mut sink, refusal);
+    let same = sink.writer.as_slice() == text;
+    drop(sink);
+    put && same
+}
+
 #[test]
 fn replies_are_shown(rt: HostRuntime) {
     let serials = Serials {
@@ -95,10 +124,8 @@ fn replies_are_shown(rt: HostRuntime) {
         (down(Down::Got { attention: 1 }), b"ignored got"),
         (up(Up::Notice { restarts: 1 }), b"took notice"),
     ];
-    for (reply, text) in &rows {
-        let mut sink = CheckedWriter::new(Vec::new(rt.alloc()));
-        assert!(rt; put_reply(&mut sink, reply) && sink.writer.as_slice() == *text);
-    }
+    let shown = are_shown(rt.alloc(), &rows);
+    assert!(rt; shown);
 }
 
 /// The code of subchannel `number`, whose interruption parameter is zero.
@@ -145,18 +172,13 @@ fn replies_of_instructions_without_a_subchannel_are_shown(rt: HostRuntime) {
         (paths(0x40), b"paths 11"),
         (paths(0), b"paths -"),
     ];
-    for (reply, text) in &rows {
-        let mut sink = CheckedWriter::new(Vec::new(rt.alloc()));
-        assert!(rt; put_reply(&mut sink, reply) && sink.writer.as_slice() == *text);
-    }
+    let shown = are_shown(rt.alloc(), &rows);
+    assert!(rt; shown);
 }
 
 #[test]
 fn replies_with_a_path_are_shown(rt: HostRuntime) {
-    let (Some(first), Some(last)) = (Path::new(0), Path::new(7)) else {
-        assert!(rt; false, "the paths are in range");
-        return;
-    };
+    let (first, last) = (Path::new(0).unwrap(), Path::new(7).unwrap());
     let offered = Reply::Offered {
         number: 3,
         path: last,
@@ -175,10 +197,8 @@ fn replies_with_a_path_are_shown(rt: HostRuntime) {
         (reset, b"reset 0"),
         (halt, b"halt 7"),
     ];
-    for (reply, text) in &rows {
-        let mut sink = CheckedWriter::new(Vec::new(rt.alloc()));
-        assert!(rt; put_reply(&mut sink, reply) && sink.writer.as_slice() == *text);
-    }
+    let shown = are_shown(rt.alloc(), &rows);
+    assert!(rt; shown);
 }
 
 #[test]
@@ -208,7 +228,6 @@ fn refusals_are_shown(rt: HostRuntime) {
         (Fault::Operand, b"refused 11"),
     ];
     for (refusal, text) in rows {
-        let mut sink = CheckedWriter::new(Vec::new(rt.alloc()));
-        assert!(rt; put_refusal(&mut sink, &refusal) && sink.writer.as_slice() == text);
+        assert!(rt; is_refusal(rt.alloc(), &refusal, text));
     }
 }

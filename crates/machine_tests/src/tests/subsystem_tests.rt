@@ -42,9 +42,9 @@ fn put(address: u32, bytes: &[u8]) -> Event {
     }
 }
 
-fn execute(instruction: Instruction) -> Option<Event> {
-    let cpu = Cpu::new(0)?;
-    Some(Event::Execute { cpu, instruction })
+fn execute(instruction: Instruction) -> Event {
+    let cpu = Cpu::new(0).unwrap();
+    Event::Execute { cpu, instruction }
 }
 
 fn report(sequence: u64, answer: DeviceAnswer) -> Event {
@@ -74,46 +74,43 @@ fn up() -> Event {
     }
 }
 
-/// The events of a write, to the status that is not cleared yet.
-pub fn script(alloc: Global) -> Vec<Event> {
-    let mut events = Vec::new(alloc);
-    let _ = events.push(put(0x500, &[0, 0, 0, 0, 0, 0x80, 0xFF, 0, 0, 0, 0x10, 0]));
-    let _ = events.push(put(0x1000, &[1, 0x20, 0, 4, 0, 0, 0x20, 0]));
-    let _ = events.push(put(0x2000, &[0xC1, 0xC2, 0xC3, 0xC4]));
-    for instruction in [
-        Instruction::Enable {
+/// How many events a write has, to the status that is not cleared yet.
+pub const EVENTS: usize = 17;
+
+/// The events of a write, to that status.
+pub fn script() -> [Event; EVENTS] {
+    [
+        put(0x500, &[0, 0, 0, 0, 0, 0x80, 0xFF, 0, 0, 0, 0x10, 0]),
+        put(0x1000, &[1, 0x20, 0, 4, 0, 0, 0x20, 0]),
+        put(0x2000, &[0xC1, 0xC2, 0xC3, 0xC4]),
+        execute(Instruction::Enable {
             subchannel: WORD,
             subclass: 0,
             multipath: false,
-        },
-        Instruction::Ssch {
+        }),
+        execute(Instruction::Ssch {
             subchannel: WORD,
             address: 0x500,
-        },
-    ] {
-        if let Some(event) = execute(instruction) {
-            let _ = events.push(event);
-        }
-    }
-    let _ = events.push(Event::Choose { subchannel: WORD });
-    let _ = events.push(down());
-    let _ = events.push(up());
-    let _ = events.push(down());
-    let _ = events.push(report(0, DeviceAnswer::Begins));
-    let _ = events.push(up());
-    let _ = events.push(down());
-    let _ = events.push(report(1, DeviceAnswer::Absorbed(4)));
-    let _ = events.push(up());
-    let _ = events.push(down());
-    let _ = events.push(report(
-        2,
-        DeviceAnswer::Ended {
-            status: DeviceStatus::end(),
-            more: false,
-        },
-    ));
-    let _ = events.push(up());
-    events
+        }),
+        Event::Choose { subchannel: WORD },
+        down(),
+        up(),
+        down(),
+        report(0, DeviceAnswer::Begins),
+        up(),
+        down(),
+        report(1, DeviceAnswer::Absorbed(4)),
+        up(),
+        down(),
+        report(
+            2,
+            DeviceAnswer::Ended {
+                status: DeviceStatus::end(),
+                more: false,
+            },
+        ),
+        up(),
+    ]
 }
 
 /// A subsystem of one path that nothing happened to; None where there is no memory.
@@ -122,29 +119,32 @@ pub fn opened(alloc: Global) -> Option<Subsystem<Rotating>> {
 }
 
 /// Whether so many events of a write, after these, are accepted one after another.
-fn performs(
-    alloc: Global,
-    subsystem: &mut Subsystem<Rotating>,
-    after: usize,
-    count: usize,
-) -> bool {
-    let events = script(alloc);
-    for event in events.iter().skip(after).take(count) {
-        if subsystem.step(event).is_err() {
+fn performs(subsystem: &mut Subsystem<Rotating>, after: usize, count: usize) -> bool {
+    for event in script().iter().skip(after).take(count) {
+        if subsystem.perform(event).is_err() {
             return false;
         }
     }
     true
 }
 
-/// How many events of a write are accepted as they are run.
-fn accepted(alloc: Global, subsystem: &mut Subsystem<Rotating>) -> Option<usize> {
-    let events = script(alloc);
-    let answers = subsystem.run(alloc, events.as_slice()).ok()?;
-    if answers.len() != events.len() {
-        return None;
+/// How many of these events are accepted as they are run; None where there is no memory, or not each has an answer.
+pub fn accepted_of(
+    alloc: Global,
+    subsystem: &mut Subsystem<Rotating>,
+    events: &[Event],
+) -> Option<usize> {
+    let answers = subsystem.run(alloc, events).ok()?;
+    accepted_among(answers.as_slice(), events.len())
+}
+
+/// How many of so many answers accept their events.
+fn accepted_among(answers: &[Result<Reply, Fault>], count: usize) -> Option<usize> {
+    if answers.len() == count {
+        Some(answers.iter().filter(|answer| answer.is_ok()).count())
+    } else {
+        None
     }
-    Some(answers.iter().filter(|answer| answer.is_ok()).count())
 }
 
 /// Whether the history has so many entries, and tells the last of them and none after it.
@@ -166,65 +166,55 @@ fn has_serials(subsystem: &Subsystem<Rotating>, made: u64, cleared: u64) -> bool
 }
 
 /// TEST SUBCHANNEL of the subchannel.
-pub fn test() -> Option<Event> {
+pub fn test() -> Event {
     execute(Instruction::Tsch {
         subchannel: WORD,
         address: 0x600,
     })
 }
 
-/// Whether TEST SUBCHANNEL answers code 0 and clears the status of the write.
-fn clears(subsystem: &mut Subsystem<Rotating>) -> bool {
-    let Some(test) = test() else {
-        return false;
-    };
-    match subsystem.step(&test) {
+/// What TEST SUBCHANNEL answers: its code, 0 or 1, how many statuses were made and how many cleared, and the words of the status.
+fn tested(subsystem: &mut Subsystem<Rotating>) -> Option<(u32, [u64; 2], [u32; 3])> {
+    match &subsystem.step(&test()) {
         Ok(
             Reply::Status {
                 answer: Answer::Zero(serials),
                 scsw,
             },
-        ) => {
-            scsw.words() == [0x0080_4007, 0x0000_1008, 0x0C00_0000]
-                && serials.made == 1
-                && serials.cleared == 1
-        }
-        _ => false,
+        ) => Some((0, [serials.made, serials.cleared], scsw.words())),
+        Ok(
+            Reply::Status {
+                answer: Answer::One(serials),
+                scsw,
+            },
+        ) => Some((1, [serials.made, serials.cleared], scsw.words())),
+        _ => None,
     }
 }
 
-/// Whether TEST SUBCHANNEL answers code 1, after that.
-fn finds_none(subsystem: &mut Subsystem<Rotating>) -> bool {
-    let Some(test) = test() else {
-        return false;
-    };
-    match subsystem.step(&test) {
-        Ok(
-            Reply::Status {
-                answer: Answer::One(_),
-                scsw,
-            },
-        ) => scsw.words() == [0x0080_0000, 0x0000_1008, 0x0C00_0000],
-        _ => false,
-    }
+/// Whether the events of a write are accepted and kept, a status is made, TEST SUBCHANNEL clears it, and none is pending then.
+fn starts_and_clears(alloc: Global, subsystem: &mut Subsystem<Rotating>) -> bool {
+    let count = accepted_of(alloc, subsystem, &script());
+    let kept = has_entries(subsystem, EVENTS);
+    let made = has_serials(subsystem, 1, 0);
+    let cleared = tested(subsystem);
+    let again = tested(subsystem);
+    count == Some(EVENTS)
+        && kept
+        && made
+        && cleared == Some((0, [1, 1], [0x0080_4007, 0x0000_1008, 0x0C00_0000]))
+        && again == Some((1, [1, 1], [0x0080_0000, 0x0000_1008, 0x0C00_0000]))
+}
+
+/// The same, of a subsystem that nothing happened to; None where there is no memory.
+fn write(alloc: Global) -> Option<bool> {
+    let mut subsystem = opened(alloc)?;
+    Some(starts_and_clears(alloc, &mut subsystem))
 }
 
 #[test]
 fn a_write_is_started_and_its_status_cleared(rt: HostRuntime) {
-    let Some(mut subsystem) = opened(rt.alloc()) else {
-        return assert!(rt; false, "there is memory");
-    };
-    let count = accepted(rt.alloc(), &mut subsystem);
-    let kept = has_entries(&subsystem, 17);
-    let made = has_serials(&subsystem, 1, 0);
-    let cleared = clears(&mut subsystem);
-    let again = finds_none(&mut subsystem);
-    drop(subsystem);
-    assert!(rt; count == Some(17));
-    assert!(rt; kept, "the history has the events");
-    assert!(rt; made, "a status is made and not cleared");
-    assert!(rt; cleared, "the status is pending");
-    assert!(rt; again, "no status is pending");
+    assert!(rt; write(rt.alloc()) == Some(true));
 }
 
 /// Whether the unit rests, and there is no other.
@@ -272,28 +262,32 @@ fn refuses(subsystem: &mut Subsystem<Rotating>) -> bool {
     matches!(not_sent, Err(Fault::NotSent)) && matches!(not_now, Err(Fault::NotNow))
 }
 
+/// Whether the unit rests, after six events is to take a signal, and after nine to begin the command; two events are then
+/// refused, and the history has those that were accepted.
+fn asks_for_turns(subsystem: &mut Subsystem<Rotating>) -> bool {
+    let rested = rests(subsystem);
+    let chosen = performs(subsystem, 0, 6) && is_to_take(subsystem);
+    let taken = performs(subsystem, 6, 3) && is_to_begin(subsystem, 1);
+    let refused = refuses(subsystem);
+    let kept = has_entries(subsystem, 9);
+    rested && chosen && taken && refused && kept
+}
+
+/// The same, of a subsystem that nothing happened to; None where there is no memory.
+fn ask(alloc: Global) -> Option<bool> {
+    let mut subsystem = opened(alloc)?;
+    Some(asks_for_turns(&mut subsystem))
+}
+
 #[test]
 fn a_unit_asks_for_its_turns(rt: HostRuntime) {
-    let Some(mut subsystem) = opened(rt.alloc()) else {
-        return assert!(rt; false, "there is memory");
-    };
-    let rested = rests(&subsystem);
-    let chosen = performs(rt.alloc(), &mut subsystem, 0, 6) && is_to_take(&subsystem);
-    let taken = performs(rt.alloc(), &mut subsystem, 6, 3) && is_to_begin(&subsystem, 1);
-    let refused = refuses(&mut subsystem);
-    let kept = has_entries(&subsystem, 9);
-    drop(subsystem);
-    assert!(rt; rested, "the unit rests");
-    assert!(rt; chosen, "a signal is to be taken");
-    assert!(rt; taken, "the command is to begin");
-    assert!(rt; refused, "two events are refused");
-    assert!(rt; kept, "the history has the events that were accepted");
+    assert!(rt; ask(rt.alloc()) == Some(true));
 }
 
 /// A subsystem after the first of the events of a write.
 pub fn begun(alloc: Global, count: usize) -> Option<Subsystem<Rotating>> {
     let mut subsystem = opened(alloc)?;
-    if performs(alloc, &mut subsystem, 0, count) {
+    if performs(&mut subsystem, 0, count) {
         Some(subsystem)
     } else {
         None
@@ -314,11 +308,16 @@ pub fn granting(left: u64) -> FailingMemory {
     }
 }
 
+/// Whether the subchannel is there, and nothing happened.
+fn is_untouched(subsystem: &Subsystem<Rotating>) -> bool {
+    subsystem.serials(WORD).is_some() && subsystem.history().len() == 0
+}
+
 /// Whether what was handed back makes a subsystem that nothing happened to.
 fn is_made_of(alloc: Global, given: NotMade<Rotating>) -> bool {
     let NotMade { config, choice } = given;
     match Subsystem::new(alloc, config, choice) {
-        Ok(subsystem) => subsystem.serials(WORD).is_some() && subsystem.history().len() == 0,
+        Ok(subsystem) => is_untouched(&subsystem),
         Err(_) => false,
     }
 }
@@ -326,15 +325,16 @@ fn is_made_of(alloc: Global, given: NotMade<Rotating>) -> bool {
 /// Whether an opening to which so many requests are granted is made where that is all of them, and else handed back.
 fn opens(alloc: Global, left: u64) -> bool {
     let mut supply = granting(left);
-    match Subsystem::new_with(alloc, &mut supply, one_path(alloc), Rotating {}) {
-        Ok(subsystem) => {
-            left == REQUESTS && !supply.refused && subsystem.serials(WORD).is_some()
-        }
-        Err(given) => {
-            let made = is_made_of(alloc, given);
-            left < REQUESTS && supply.refused && made
-        }
-    }
+    let (whole, right) = match Subsystem::new_with(
+        alloc,
+        &mut supply,
+        one_path(alloc),
+        Rotating {},
+    ) {
+        Ok(subsystem) => (true, is_untouched(&subsystem)),
+        Err(given) => (false, is_made_of(alloc, given)),
+    };
+    right && whole == !supply.refused && whole == (left == REQUESTS)
 }
 
 #[test]
@@ -350,11 +350,20 @@ fn run_rest(
     subsystem: &mut Subsystem<Rotating>,
     supply: &mut FailingMemory,
 ) -> Result<usize, Fault> {
-    let events = script(alloc);
-    if events.len() < 6 {
-        return Ok(0);
+    match script().get(6..) {
+        Some(events) => run_all(alloc, subsystem, supply, events),
+        None => Ok(0),
     }
-    let answers = subsystem.run_with(alloc, supply, &events.as_slice()[6..])?;
+}
+
+/// These events are run: how many are accepted.
+fn run_all(
+    alloc: Global,
+    subsystem: &mut Subsystem<Rotating>,
+    supply: &mut FailingMemory,
+    events: &[Event],
+) -> Result<usize, Fault> {
+    let answers = subsystem.run_with(alloc, supply, events)?;
     Ok(answers.iter().filter(|answer| answer.is_ok()).count())
 }
 
@@ -370,22 +379,21 @@ fn is_refused(alloc: Global, subsystem: &mut Subsystem<Rotating>) -> bool {
 
 /// Whether a run to which so many requests are granted is performed, where that is all of them, or else ends where one is
 /// refused, with fewer entries; None where it does neither.
-fn is_performed(alloc: Global, left: u64) -> Option<bool> {
-    let mut subsystem = begun(alloc, 6)?;
+fn run_granted(alloc: Global, subsystem: &mut Subsystem<Rotating>, left: u64) -> Option<bool> {
     let mut supply = granting(left);
-    match run_rest(alloc, &mut subsystem, &mut supply) {
-        Ok(11) => if supply.refused || !has_entries(&subsystem, 17) {
-            None
-        } else {
-            Some(true)
-        },
-        Err(Fault::NoMemory) => if supply.refused && subsystem.history().len() < 17 {
-            Some(false)
-        } else {
-            None
-        },
+    let outcome = run_rest(alloc, subsystem, &mut supply);
+    let (whole, shorter) = (has_entries(subsystem, 17), subsystem.history().len() < 17);
+    match outcome {
+        Ok(11) if !supply.refused && whole => Some(true),
+        Err(Fault::NoMemory) if supply.refused && shorter => Some(false),
         _ => None,
     }
+}
+
+/// The same, of a subsystem after the first six events.
+fn is_performed(alloc: Global, left: u64) -> Option<bool> {
+    let mut subsystem = begun(alloc, 6)?;
+    run_granted(alloc, &mut subsystem, left)
 }
 
 /// How many requests a run makes, where it is refused each in turn and then performed.
@@ -400,9 +408,7 @@ fn requests_of_run(alloc: Global) -> Option<u64> {
 
 #[test]
 fn each_request_of_a_run_is_refused_in_turn(rt: HostRuntime) {
-    let Some(requests) = requests_of_run(rt.alloc()) else {
-        return assert!(rt; false, "a run is performed, or refused a request");
-    };
+    let requests = requests_of_run(rt.alloc()).unwrap_or(0);
     assert!(rt; requests > 1, "{requests}");
 }
 
@@ -413,35 +419,32 @@ fn is_granted(alloc: Global, subsystem: &mut Subsystem<Rotating>) -> bool {
     !supply.refused && matches!(outcome, Ok(11)) && has_entries(subsystem, 17)
 }
 
-#[test]
-fn a_run_whose_answers_are_refused_changes_nothing(rt: HostRuntime) {
-    let Some(mut subsystem) = begun(rt.alloc(), 6) else {
-        return assert!(rt; false, "the events are accepted");
-    };
-    let refused = is_refused(rt.alloc(), &mut subsystem);
-    let granted = is_granted(rt.alloc(), &mut subsystem);
-    let made = has_serials(&subsystem, 1, 0);
-    drop(subsystem);
-    assert!(rt; refused, "nothing is changed");
-    assert!(rt; granted, "the events are accepted");
-    assert!(rt; made, "a status is made and not cleared");
-}
-
 /// Whether a run of no event is performed where no request is granted.
 fn runs_nothing(alloc: Global, subsystem: &mut Subsystem<Rotating>) -> bool {
     let mut supply = granting(0);
-    match subsystem.run_with(alloc, &mut supply, &[]) {
-        Ok(answers) => answers.is_empty() && !supply.refused,
+    let performed = match subsystem.run_with(alloc, &mut supply, &[]) {
+        Ok(answers) => answers.is_empty(),
         Err(_) => false,
-    }
+    };
+    performed && !supply.refused
+}
+
+/// Whether a run of no event asks for no room, one whose answers are refused changes nothing, and it is then performed.
+fn runs_again(alloc: Global, subsystem: &mut Subsystem<Rotating>) -> bool {
+    let none = runs_nothing(alloc, subsystem);
+    let refused = is_refused(alloc, subsystem);
+    let granted = is_granted(alloc, subsystem);
+    let made = has_serials(subsystem, 1, 0);
+    none && refused && granted && made
+}
+
+/// The same, of a subsystem after the first six events; None where they are not accepted.
+fn run_again(alloc: Global) -> Option<bool> {
+    let mut subsystem = begun(alloc, 6)?;
+    Some(runs_again(alloc, &mut subsystem))
 }
 
 #[test]
-fn a_run_of_no_event_asks_for_no_room(rt: HostRuntime) {
-    let Some(mut subsystem) = begun(rt.alloc(), 6) else {
-        return assert!(rt; false, "the events are accepted");
-    };
-    let run = runs_nothing(rt.alloc(), &mut subsystem);
-    drop(subsystem);
-    assert!(rt; run, "no room is asked for");
+fn a_run_of_no_event_asks_for_no_room_and_one_that_is_refused_it_changes_nothing(rt: HostRuntime) {
+    assert!(rt; run_again(rt.alloc()) == Some(true));
 }
