@@ -11,13 +11,15 @@ fn text_has<'a>(alloc: Global, words: &'a [&'a str], part: &str) -> bool {
     }
 }
 
+/// The command that words name.
+fn named<'a>(alloc: Global, words: &'a [&'a str]) -> Option<Wanted> {
+    command_of(alloc, &mut Allocator { refused: false }, words).ok()
+}
+
 #[test]
 fn a_command_is_named(rt: HostRuntime) {
-    let mut supply = Allocator { refused: false };
-    let run = command_of(rt.alloc(), &mut supply, &["chsim", "run"]);
-    assert!(rt; matches!(run, Ok(Wanted::Run)));
-    let check = command_of(rt.alloc(), &mut supply, &["chsim", "check"]);
-    assert!(rt; matches!(check, Ok(Wanted::Check)));
+    assert!(rt; named(rt.alloc(), &["chsim", "run"]) == Some(Wanted::Run));
+    assert!(rt; named(rt.alloc(), &["chsim", "check"]) == Some(Wanted::Check));
 }
 
 #[test]
@@ -37,10 +39,18 @@ fn other_words_give_a_text(rt: HostRuntime) {
 
 #[test]
 fn a_text_without_memory_is_refused(rt: HostRuntime) {
+    assert!(rt; is_refused(rt.alloc(), &["chsim", "walk"]));
+}
+
+/// Whether no memory is granted for the text about words, and that can be seen.
+fn is_refused<'a>(alloc: Global, words: &'a [&'a str]) -> bool {
     let mut supply = FailingMemory {
         left: 0,
         refused: false,
     };
-    let walk = command_of(rt.alloc(), &mut supply, &["chsim", "walk"]);
-    assert!(rt; matches!(walk, Err(Refused::NoMemory)) && supply.refused);
+    let is_refused = match command_of(alloc, &mut supply, words) {
+        Err(Refused::NoMemory) => true,
+        _ => false,
+    };
+    is_refused && supply.refused
 }

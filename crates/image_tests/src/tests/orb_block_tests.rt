@@ -7,23 +7,26 @@ fn an_image_is_read_and_written(rt: HostRuntime) {
     let image = [
         0x12, 0x34, 0x56, 0x78, 0x48, 0x82, 0xFF, 0x80, 0, 0, 0x20, 0,
     ];
-    match Orb::read(&image) {
-        Err(_) => assert!(rt; false, "the image is allowed"),
-        Ok(orb) => {
-            assert!(rt;
-                orb.parameter == 0x1234_5678
-                    && orb.key == 4
-                    && orb.suspend
-                    && orb.format_one
-                    && orb.suppress_length
-                    && !orb.prefetch
-                    && orb.long_addresses
-                    && !orb.small_blocks
-                    && !orb.modified_words
-            );
-            assert!(rt; orb.paths == 0xFF && orb.program == 0x2000 && orb.write() == image);
-        }
-    }
+    assert!(rt; is_read_and_written(&image) == Some(true));
+}
+
+/// Whether an image is of these fields, and they of it. None where it is refused.
+fn is_read_and_written(image: &[u8; 12]) -> Option<bool> {
+    let orb = Orb::read(image).ok()?;
+    Some(
+        orb.parameter == 0x1234_5678
+            && orb.key == 4
+            && orb.suspend
+            && orb.format_one
+            && orb.suppress_length
+            && !orb.prefetch
+            && orb.long_addresses
+            && !orb.small_blocks
+            && !orb.modified_words
+            && orb.paths == 0xFF
+            && orb.program == 0x2000
+            && orb.write() == *image,
+    )
 }
 
 #[test]

@@ -38,60 +38,91 @@ fn word() -> Pmcw {
 #[test]
 fn a_block_is_read_and_written(rt: HostRuntime) {
     law::read_back();
-    match Schib::read(&IMAGE) {
-        None => assert!(rt; false, "the image is allowed"),
-        Some(schib) => {
-            assert!(rt; schib.pmcw == word());
-            let words: [u32; 3] = [0x0080_4400, 0x0000_1000, 0];
-            assert!(rt; Some(schib.scsw) == Scsw::of_words(&words) && schib.write() == IMAGE);
-        }
-    }
+    assert!(rt; is_read_and_written() == Some(true));
+}
+
+/// Whether the image is of that word and a start that is pending, and they of it.
+fn is_read_and_written() -> Option<bool> {
+    let schib = Schib::read(&IMAGE)?;
+    let scsw = Scsw::of_words(&[0x0080_4400, 0x0000_1000, 0])?;
+    Some(schib.pmcw == word() && schib.scsw == scsw && schib.write() == IMAGE)
 }
 
 #[test]
 fn reserved_bits_are_ignored(rt: HostRuntime) {
+    assert!(rt; ignores_reserved_bits());
+}
+
+/// Whether reserved bits change nothing of the word, and in the status alone are refused.
+fn ignores_reserved_bits() -> bool {
     let mut image = IMAGE;
     image[4] = 0xC7;
     image[27] = 0xFE;
     image[51] = 1;
-    assert!(rt; Pmcw::of_schib(&image) == word() && Schib::read(&image) == Schib::read(&IMAGE));
-    image[28] = 4;
-    assert!(rt; Pmcw::of_schib(&image) == word() && Schib::read(&image) == None);
+    let mut refused = image;
+    refused[28] = 4;
+    Pmcw::of_schib(&image) == word()
+        && Schib::read(&image) == Schib::read(&IMAGE)
+        && Pmcw::of_schib(&refused) == word()
+        && Schib::read(&refused) == None
 }
 
 #[test]
 fn a_word_is_modified(rt: HostRuntime) {
+    assert!(rt; is_kept_where_refused());
+    assert!(rt; is_modified());
+}
+
+/// Whether a word is as it was where another is refused.
+fn is_kept_where_refused() -> bool {
     let mut pmcw = word();
     let mut image = IMAGE;
     image[5] = 0xA1;
     let refused = pmcw.modify(&Pmcw::of_schib(&image), false);
-    assert!(rt; refused == Err(Operand) && pmcw == word());
+    refused == Err(Operand) && pmcw == word()
+}
+
+/// Whether the subclass is taken of another word, and concurrent sense where that is asked for.
+fn is_modified() -> bool {
+    let mut image = IMAGE;
     image[4] = 0x38;
     image[5] = 0x81;
     image[6] = 0xFF;
     image[15] = 0;
     image[27] = 1;
+    let mut pmcw = word();
     let taken = pmcw.modify(&Pmcw::of_schib(&image), false);
-    assert!(rt; taken == Ok(()));
+    let without_sense = pmcw;
+    let taken_with_sense = pmcw.modify(&Pmcw::of_schib(&image), true);
     let mut wanted = word();
     wanted.subclass = 7;
-    assert!(rt; pmcw == wanted);
-    let taken_with_sense = pmcw.modify(&Pmcw::of_schib(&image), true);
-    wanted.concurrent_sense = true;
-    assert!(rt; taken_with_sense == Ok(()) && pmcw == wanted);
+    let mut wanted_with_sense = wanted;
+    wanted_with_sense.concurrent_sense = true;
+    taken == Ok(())
+        && without_sense == wanted
+        && taken_with_sense == Ok(())
+        && pmcw == wanted_with_sense
+}
+
+/// The words of that word after these are given.
+fn words_after(words: &mut PmcwWords, last: u32, takes_sense: bool) -> [u32; 7] {
+    let given = [0, 0, 0xFF00_0000, 0x0000_FF00, 0, 0, last];
+    words.modify(&given, takes_sense);
+    *words.words()
 }
 
 #[test]
 fn concurrent_sense_is_taken_where_that_is_asked_for(rt: HostRuntime) {
+    assert!(rt; takes_sense_where_asked());
+}
+
+/// Whether the last word is of bits that are given, where concurrent sense is asked for.
+fn takes_sense_where_asked() -> bool {
     let mut words = PmcwWords::of(word());
-    let given: [u32; 7] = [0, 0, 0xFF00_0000, 0x0000_FF00, 0, 0, 0xFFFF_FFFF];
-    words.modify(&given, false);
-    let dropped = *words.words();
-    words.modify(&given, true);
-    let kept = *words.words();
-    words.modify(&[0, 0, 0xFF00_0000, 0x0000_FF00, 0, 0, 0xFFFF_FFFE], true);
-    let off_again = *words.words();
-    assert!(rt; dropped == [0, 0x0001_0100, 0xFF00_0080, 0x0000_FF80, 0x1000_0000, 0, 0]);
-    assert!(rt; kept == [0, 0x0001_0100, 0xFF00_0080, 0x0000_FF80, 0x1000_0000, 0, 1]);
-    assert!(rt; off_again == dropped);
+    let dropped = words_after(&mut words, 0xFFFF_FFFF, false);
+    let kept = words_after(&mut words, 0xFFFF_FFFF, true);
+    let off_again = words_after(&mut words, 0xFFFF_FFFE, true);
+    dropped == [0, 0x0001_0100, 0xFF00_0080, 0x0000_FF80, 0x1000_0000, 0, 0]
+        && kept == [0, 0x0001_0100, 0xFF00_0080, 0x0000_FF80, 0x1000_0000, 0, 1]
+        && off_again == dropped
 }

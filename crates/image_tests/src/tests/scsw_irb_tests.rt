@@ -37,24 +37,25 @@ fn ended() -> Scsw {
     }
 }
 
-#[test]
-fn an_ended_program_is_shown(rt: HostRuntime) {
-    let image = Irb {
+/// A block of that status, and the path that was used last.
+fn ended_block() -> Irb {
+    Irb {
         scsw: ended(),
         last_path_used: 0x40,
     }
-    .write();
+}
+
+#[test]
+fn an_ended_program_is_shown(rt: HostRuntime) {
     let front = [
         0, 0x80, 0x60, 0x07, 0, 0, 0x20, 0x08, 0x0C, 0x40, 1, 2, 0, 0x40, 0, 0,
     ];
-    for (index, byte) in front.iter().enumerate() {
-        if index < 64 {
-            assert!(rt; image[index] == *byte, "byte {index}");
-        }
-    }
-    for byte in &image[16..] {
-        assert!(rt; *byte == 0);
-    }
+    assert!(rt; begins_with(&ended_block().write(), &front));
+}
+
+/// Whether an image begins with these bytes, and the others are zero.
+fn begins_with(image: &[u8; 64], front: &[u8; 16]) -> bool {
+    image[..16] == front[..] && image[16..].iter().all(|byte| *byte == 0)
 }
 
 #[test]
@@ -79,15 +80,12 @@ fn reports_of_a_path(rt: HostRuntime) {
 
 #[test]
 fn a_block_is_read_back(rt: HostRuntime) {
-    let irb = Irb {
-        scsw: ended(),
-        last_path_used: 0x40,
-    };
-    assert!(rt; Irb::read(&irb.write()) == Some(irb));
+    let irb = ended_block();
     let mut image = irb.write();
     image[63] = 1;
     assert!(rt;
-        Irb::read(&image) == None
+        Irb::read(&irb.write()) == Some(irb)
+            && Irb::read(&image) == None
             && Scsw::of_words(&[0x0400_0000, 0, 0]) == None
             && Scsw::of_words(&[0, 0, 0]) == Some(Scsw::zero())
     );
@@ -111,28 +109,31 @@ fn an_interruption_code_names_its_subchannel(rt: HostRuntime) {
 
 #[test]
 fn statuses_are_sets(rt: HostRuntime) {
-    let check = DeviceStatus::end().joined(DeviceStatus::UNIT_CHECK);
-    assert!(rt;
-        check.bits() == 0x0E
-            && check == DeviceStatus::of_bits(0x0E)
-            && check.has_check()
-            && check.has_channel_end()
-            && check.has_device_end()
-    );
-    assert!(rt;
-        !check.has_unit_exception()
-            && !check.has_modifier()
-            && !check.is_channel_end_alone()
-            && check.contains(DeviceStatus::end())
-            && check.contains(DeviceStatus::empty())
-    );
-    let faults = SubchannelStatus::INCORRECT_LENGTH.joined(SubchannelStatus::of_bits(0x20));
-    assert!(rt;
-        faults.bits() == 0x60
-            && faults.contains(SubchannelStatus::PROGRAM_CHECK)
-            && !faults.contains(SubchannelStatus::PROTECTION_CHECK)
-            && SubchannelStatus::empty().bits() == 0
-    );
+    assert!(rt; is_unit_check(DeviceStatus::end().joined(DeviceStatus::UNIT_CHECK)));
+    let incorrect_length = SubchannelStatus::INCORRECT_LENGTH;
+    assert!(rt; is_program_check(incorrect_length.joined(SubchannelStatus::of_bits(0x20))));
+}
+
+/// Whether a status is that of a device that ended with a unit check.
+fn is_unit_check(status: DeviceStatus) -> bool {
+    status.bits() == 0x0E
+        && status == DeviceStatus::of_bits(0x0E)
+        && status.has_check()
+        && status.has_channel_end()
+        && status.has_device_end()
+        && !status.has_unit_exception()
+        && !status.has_modifier()
+        && !status.is_channel_end_alone()
+        && status.contains(DeviceStatus::end())
+        && status.contains(DeviceStatus::empty())
+}
+
+/// Whether a status is that of an incorrect length and a program check.
+fn is_program_check(status: SubchannelStatus) -> bool {
+    status.bits() == 0x60
+        && status.contains(SubchannelStatus::PROGRAM_CHECK)
+        && !status.contains(SubchannelStatus::PROTECTION_CHECK)
+        && SubchannelStatus::empty().bits() == 0
 }
 
 #[test]
@@ -141,9 +142,7 @@ fn groups_are_read_of_word_0(rt: HostRuntime) {
         FunctionControl::of_word(0x0000_6007) == ended().functions
             && ActivityControl::of_word(0x0000_6007) == ActivityControl::none()
             && StatusControl::of_word(0x0000_6007) == ended().status
-    );
-    assert!(rt;
-        FunctionControl::of_word(0) == FunctionControl::none()
+            && FunctionControl::of_word(0) == FunctionControl::none()
             && StatusControl::of_word(0) == StatusControl::none()
             && DeferredCode::of_number(3).number() == 3
     );

@@ -9,9 +9,7 @@ fn fields_count_from_the_left(rt: HostRuntime) {
         field(0x8765_4321, 0, 3) == 8
             && field(0x8765_4321, 28, 31) == 1
             && field(0x8765_4321, 0, 31) == 0x8765_4321
-    );
-    assert!(rt;
-        flag(0x8000_0000, 0) == true
+            && flag(0x8000_0000, 0) == true
             && flag(0x8000_0000, 31) == false
             && set_field(0x8765_4321, 4, 7, 0xF) == 0x8F65_4321
     );
@@ -20,9 +18,8 @@ fn fields_count_from_the_left(rt: HostRuntime) {
 #[test]
 fn words_are_big_endian(rt: HostRuntime) {
     let [first, second] = be_words::<2>(&[0, 0, 0, 1, 2, 0, 0, 0]);
-    assert!(rt; first == 1 && second == 0x0200_0000);
     let image: [u8; 8] = be_bytes(&[first, second]);
-    assert!(rt; image == [0, 0, 0, 1, 2, 0, 0, 0]);
+    assert!(rt; first == 1 && second == 0x0200_0000 && image == [0, 0, 0, 1, 2, 0, 0, 0]);
 }
 
 #[test]

@@ -5,6 +5,7 @@ ghost use Rattle.std.specs.Prelude.{◌<◌};
 use ccw_codec::{Ccw, Format};
 use data_move::moving::Move;
 use idaw::ListKind;
+use std::alloc::Global;
 use storage_keys::{MainStorage, Storage};
 
 /// The first words of the lists.
@@ -112,15 +113,6 @@ fn read_by_list(count: u16) -> Option<Ccw> {
     Ccw::read(Format::One, &[2, 0x24, high, low, 0, 0, 1, 0]).ok()
 }
 
-/// What is wrong of the lists of a kind.
-#[derive(Clone, Copy)]
-enum Wrong {
-    /// A list is not put into storage.
-    NotPut,
-    /// The list with this first word leads elsewhere, where so many bytes are read.
-    Leads { first: u32, count: u16 },
-}
-
 /// Whether a read of so many bytes agrees, at most 256 at once and at most 100.
 fn agrees_for(storage: &Storage, kind: ListKind, first: u32, count: u16) -> bool {
     match read_by_list(count) {
@@ -131,53 +123,41 @@ fn agrees_for(storage: &Storage, kind: ListKind, first: u32, count: u16) -> bool
     }
 }
 
-/// The first of the counts for which a read by the list in storage doesn't agree.
-fn disagreeing(storage: &Storage, kind: ListKind, first: u32) -> Option<u16> {
+/// Whether the read of each count agrees.
+fn agrees_for_each_count(storage: &Storage, kind: ListKind, first: u32) -> bool {
     for count in COUNTS {
         if !agrees_for(storage, kind, first, count) {
-            return Some(count);
+            return false;
         }
     }
-    None
+    true
 }
 
-/// Puts the lists of a kind into storage, one after another, and reads by each.
-fn try_lists(storage: &mut Storage, kind: ListKind) -> Result<(), Wrong> {
+/// Whether the lists of a kind are put into storage, one after another, and each read by them agrees.
+fn are_as_reckoned(storage: &mut Storage, kind: ListKind) -> bool {
     for first in FIRSTS {
-        if !put_list(storage, kind, first) {
-            return Err(Wrong::NotPut);
-        }
-        if let Some(count) = disagreeing(storage, kind, first) {
-            return Err(Wrong::Leads { first, count });
+        if !put_list(storage, kind, first) || !agrees_for_each_count(storage, kind, first) {
+            return false;
         }
     }
-    Ok(())
+    true
 }
 
 #[test]
 fn the_reads_by_a_list_are_allowed(rt: HostRuntime) {
     for count in COUNTS {
-        assert!(rt;
-            read_by_list(count).is_some(),
-            "the command word is allowed"
-        );
+        assert!(rt; read_by_list(count).is_some(), "{count}");
     }
 }
 
 #[test]
 fn the_places_are_those_of_the_formula(rt: HostRuntime) {
-    let Ok(mut storage) = Storage::new(rt.alloc(), 16) else {
-        return assert!(rt; false, "no memory");
-    };
-    let short = try_lists(&mut storage, ListKind::Short);
-    let by_four_k = try_lists(&mut storage, ListKind::LongByFourK);
-    let by_two_k = try_lists(&mut storage, ListKind::LongByTwoK);
-    drop(storage);
-    for tried in [short, by_four_k, by_two_k] {
-        match tried {
-            Ok(()) => {}
-            Err(Wrong::NotPut) => assert!(rt; false, "the list is put into storage"),
-            Err(Wrong::Leads { first, count }) => assert!(rt; false, "{first} {count}"),
-        }
-    }
+    assert!(rt; reads_by_lists(rt.alloc(), ListKind::Short) == Some(true));
+    assert!(rt; reads_by_lists(rt.alloc(), ListKind::LongByFourK) == Some(true));
+    assert!(rt; reads_by_lists(rt.alloc(), ListKind::LongByTwoK) == Some(true));
+}
+
+fn reads_by_lists(alloc: Global, kind: ListKind) -> Option<bool> {
+    let mut storage = Storage::new(alloc, 16).ok()?;
+    Some(are_as_reckoned(&mut storage, kind))
 }

@@ -11,13 +11,13 @@ use crate::tests::line_reasons_tests::name_lines::{first_words, other_names};
 use crate::tests::line_reasons_tests::setting_lines::{
     first_lines, later_lines, refused_settings, setting_lines,
 };
+use channel_config::config::Config;
 use line_reasons::checker::{Checker, Checking};
 use line_reasons::printing::{put_bad_line, put_reasons};
 use line_reasons::whole::bad_lines;
 use memory::{Allocator, FailingMemory};
 use std::alloc::{AllocError, Global};
 use std::process::Abort;
-use std::test::Fail;
 use streams::CheckedWriter;
 
 /// A line, and what is told of it.
@@ -30,34 +30,42 @@ type LaterLine = (&'static [u8], &'static [u8], &'static [u8]);
 const READY: &[u8] = b"storage 10\npath 10\nunit 0 block\nsub 0 0100 0 10\n";
 
 /// What is told of a text.
-fn told(alloc: Global, text: &[u8]) -> Result<Vec<u8>, AllocError> {
-    let found = bad_lines(alloc, &mut Allocator { refused: false }, text)?;
+fn told(alloc: Global, text: &[u8]) -> Option<Vec<u8>> {
+    let found = bad_lines(alloc, &mut Allocator { refused: false }, text).ok()?;
     let mut sink = CheckedWriter::new(Vec::new(alloc));
     let _whole = put_reasons(&mut sink, found.as_slice());
-    Ok(sink.writer)
+    Some(sink.writer)
 }
 
-/// What is told of a line behind others, and that no other is bad.
-fn is_told(alloc: Global, before: &[u8], line: &[u8], wanted: &[u8]) -> Result<bool, AllocError> {
-    let mut text = before.to_vec(alloc)?;
-    text.extend_from_slice(line)?;
-    text.extend_from_slice(b"\n")?;
-    let mut whole = wanted.to_vec(alloc)?;
-    whole.extend_from_slice(b"\n1 bad line\n")?;
-    Ok(told(alloc, text.as_slice())?.as_slice() == whole.as_slice())
+/// Two texts as one, with a third between them.
+fn joined(alloc: Global, first: &[u8], between: &[u8], last: &[u8]) -> Option<Vec<u8>> {
+    let mut text = first.to_vec(alloc).ok()?;
+    text.extend_from_slice(between).ok()?;
+    text.extend_from_slice(last).ok()?;
+    Some(text)
+}
+
+/// What is told of a line behind others.
+fn told_behind(alloc: Global, before: &[u8], line: &[u8]) -> Option<Vec<u8>> {
+    let text = joined(alloc, before, line, b"\n")?;
+    told(alloc, text.as_slice())
+}
+
+/// Whether this is told of a line behind others, and no other is bad.
+fn is_told(alloc: Global, before: &[u8], line: &[u8], wanted: &[u8]) -> Option<bool> {
+    let whole = joined(alloc, wanted, b"\n1 bad line", b"\n")?;
+    let told = told_behind(alloc, before, line)?;
+    Some(told.as_slice() == whole.as_slice())
 }
 
 /// Asserts what is told of a line behind others.
-fn expect_told(
-    rt: &impl Abort,
-    alloc: Global,
-    before: &[u8],
-    row: (&[u8], &[u8]),
-) -> Result<(), AllocError> {
+fn expect_told(rt: &impl Abort, alloc: Global, before: &[u8], row: (&[u8], &[u8])) {
     let (line, wanted) = row;
-    let as_wanted = is_told(alloc, before, line, wanted)?;
-    assert!(rt; as_wanted, "{}", str_of(wanted));
-    Ok(())
+    assert!(rt;
+        is_told(alloc, before, line, wanted) == Some(true),
+        "{}",
+        str_of(wanted)
+    );
 }
 
 /// A wanted text, where it is told that another came.
@@ -68,96 +76,92 @@ fn str_of(text: &[u8]) -> &str {
     }
 }
 
-/// Asserts what is told of lines behind those of a machine.
-fn expect_behind_machine(
-    rt: &impl Abort,
-    alloc: Global,
-    rows: &[WrongLine],
-) -> Result<(), AllocError> {
+/// Asserts what is told of each line behind the same others.
+fn expect_each_told(rt: &impl Abort, alloc: Global, before: &[u8], rows: &[WrongLine]) {
     for row in rows {
-        expect_told(rt, alloc, READY, *row)?;
+        expect_told(rt, alloc, before, *row);
     }
-    Ok(())
 }
 
 #[test]
-fn unknown_words(rt: HostRuntime) -> Result<(), Fail> {
-    expect_behind_machine(&rt, rt.alloc(), first_words())?;
-    expect_behind_machine(&rt, rt.alloc(), other_names())?;
-    Ok(())
+fn unknown_words(rt: HostRuntime) {
+    expect_each_told(&rt, rt.alloc(), READY, first_words());
+    expect_each_told(&rt, rt.alloc(), READY, other_names());
 }
 
 #[test]
-fn wrong_counts(rt: HostRuntime) -> Result<(), Fail> {
-    expect_behind_machine(&rt, rt.alloc(), some_counts())?;
-    expect_behind_machine(&rt, rt.alloc(), other_counts())?;
-    Ok(())
+fn wrong_counts(rt: HostRuntime) {
+    expect_each_told(&rt, rt.alloc(), READY, some_counts());
+    expect_each_told(&rt, rt.alloc(), READY, other_counts());
 }
 
 #[test]
-fn bad_words(rt: HostRuntime) -> Result<(), Fail> {
-    expect_behind_machine(&rt, rt.alloc(), digits())?;
-    expect_behind_machine(&rt, rt.alloc(), ranges())?;
-    expect_behind_machine(&rt, rt.alloc(), other_words())?;
-    Ok(())
+fn bad_words(rt: HostRuntime) {
+    expect_each_told(&rt, rt.alloc(), READY, digits());
+    expect_each_told(&rt, rt.alloc(), READY, ranges());
+    expect_each_told(&rt, rt.alloc(), READY, other_words());
 }
 
 #[test]
-fn settings_behind_a_machine(rt: HostRuntime) -> Result<(), Fail> {
-    expect_behind_machine(&rt, rt.alloc(), refused_settings())?;
-    Ok(())
+fn settings(rt: HostRuntime) {
+    expect_each_told(&rt, rt.alloc(), READY, refused_settings());
+    expect_each_told(&rt, rt.alloc(), b"storage 10\n", setting_lines());
 }
 
 #[test]
-fn lines_behind_storage(rt: HostRuntime) -> Result<(), Fail> {
-    for row in setting_lines() {
-        expect_told(&rt, rt.alloc(), b"storage 10\n", *row)?;
-    }
-    Ok(())
+fn lines_that_come_first(rt: HostRuntime) {
+    expect_each_told(&rt, rt.alloc(), b"", first_lines());
 }
 
 #[test]
-fn lines_that_come_first(rt: HostRuntime) -> Result<(), Fail> {
-    for row in first_lines() {
-        expect_told(&rt, rt.alloc(), b"", *row)?;
-    }
-    Ok(())
-}
-
-#[test]
-fn lines_behind_others(rt: HostRuntime) -> Result<(), Fail> {
+fn lines_behind_others(rt: HostRuntime) {
     for (before, line, wanted) in later_lines() {
-        expect_told(&rt, rt.alloc(), before, (*line, *wanted))?;
+        expect_told(&rt, rt.alloc(), before, (*line, *wanted));
     }
-    Ok(())
 }
 
 /// A line of which so many bytes are these digits.
-fn long_line(
+fn long_line(alloc: Global, head: &[u8], digits: &[u8], count: usize) -> Option<Vec<u8>> {
+    let mut line = head.to_vec(alloc).ok()?;
+    for _ in 0..count {
+        line.extend_from_slice(digits).ok()?;
+    }
+    Some(line)
+}
+
+/// Whether this is told of a line of which so many bytes are these digits.
+fn is_told_of_long(
     alloc: Global,
     head: &[u8],
     digits: &[u8],
     count: usize,
-) -> Result<Vec<u8>, AllocError> {
-    let mut line = head.to_vec(alloc)?;
-    for _ in 0..count {
-        line.extend_from_slice(digits)?;
-    }
-    Ok(line)
+    wanted: &[u8],
+) -> Option<bool> {
+    let line = long_line(alloc, head, digits, count)?;
+    is_told(alloc, READY, line.as_slice(), wanted)
 }
 
 #[test]
-fn long_lines(rt: HostRuntime) -> Result<(), Fail> {
-    let alloc = rt.alloc();
-    let bytes = long_line(alloc, b"put 500 ", b"C1", 300)?;
-    let wanted = b"5:3: 300 bytes; put takes 1 to 256 (rule 3)".as_slice();
-    expect_told(&rt, alloc, READY, (bytes.as_slice(), wanted))?;
-    let comment = long_line(alloc, b"#", b" ", 1024)?;
-    let wanted = b"5: 1025 bytes; a line has at most 1024 (rule 3)".as_slice();
-    expect_told(&rt, alloc, READY, (comment.as_slice(), wanted))?;
-    let wanted = b"5: the line is not UTF-8 (rule 3)".as_slice();
-    expect_told(&rt, alloc, READY, (b"# \xFF".as_slice(), wanted))?;
-    Ok(())
+fn long_lines(rt: HostRuntime) {
+    let rows: [(&[u8], &[u8], usize, &[u8]); 3] = [
+        (
+            b"put 500 ",
+            b"C1",
+            300,
+            b"5:3: 300 bytes; put takes 1 to 256 (rule 3)",
+        ),
+        (
+            b"#",
+            b" ",
+            1024,
+            b"5: 1025 bytes; a line has at most 1024 (rule 3)",
+        ),
+        (b"# \xFF", b"", 0, b"5: the line is not UTF-8 (rule 3)"),
+    ];
+    for (head, digits, count, wanted) in rows {
+        let is_told = is_told_of_long(rt.alloc(), head, digits, count, wanted);
+        assert!(rt; is_told == Some(true), "{}", str_of(wanted));
+    }
 }
 
 /// Texts, and all that is told of them.
@@ -191,13 +195,20 @@ fn texts() -> &'static [(&'static [u8], &'static [u8])] {
 }
 
 #[test]
-fn whole_texts(rt: HostRuntime) -> Result<(), Fail> {
+fn whole_texts(rt: HostRuntime) {
     for (text, wanted) in texts() {
-        let told = told(rt.alloc(), text)?;
-        let as_wanted = told.as_slice() == *wanted;
-        assert!(rt; as_wanted, "{}", str_of(told.as_slice()));
+        assert!(rt;
+            is_all_told(rt.alloc(), text, wanted) == Some(true),
+            "{}",
+            str_of(wanted)
+        );
     }
-    Ok(())
+}
+
+/// Whether this is all that is told of a text.
+fn is_all_told(alloc: Global, text: &[u8], wanted: &[u8]) -> Option<bool> {
+    let told = told(alloc, text)?;
+    Some(told.as_slice() == wanted)
 }
 
 /// Lines that are typed in, and what is told of each; nothing of a good one.
@@ -228,22 +239,49 @@ fn typed() -> &'static [(&'static [u8], &'static [u8])] {
 }
 
 #[test]
-fn a_dialogue_leaves_bad_lines_out(rt: HostRuntime) -> Result<(), Fail> {
-    let alloc = rt.alloc();
+fn a_dialogue_leaves_bad_lines_out(rt: HostRuntime) {
+    assert!(rt; is_dialogue_told(rt.alloc()));
+}
+
+/// Whether this is told of the lines that are typed in, and path 10 is configured by them.
+fn is_dialogue_told(alloc: Global) -> bool {
     let mut checker = Checker::new(alloc, Checking::Dialogue);
+    let are_told = are_lines_told(alloc, &mut checker);
+    are_told && has_path_10(&checker.into_config())
+}
+
+/// Whether this is told of each line that is typed in.
+fn are_lines_told(alloc: Global, checker: &mut Checker) -> bool {
     let mut number: u64 = 0;
     for (line, wanted) in typed() {
         number = number.wrapping_add(1);
-        let mut sink = CheckedWriter::new(Vec::new(alloc));
-        let told = checker.line(alloc, &mut Allocator { refused: false }, number, line)?;
-        if let Some(bad) = told {
-            let _whole = put_bad_line(&mut sink, &bad);
+        if is_line_told(alloc, checker, number, (*line, *wanted)) != Some(true) {
+            return false;
         }
-        assert!(rt; sink.writer.as_slice() == *wanted, "{}", str_of(wanted));
     }
-    let config = checker.into_config();
-    assert!(rt; config.paths() == [0x10].as_slice());
-    Ok(())
+    true
+}
+
+/// Whether this is told of a line that is typed in.
+fn is_line_told(
+    alloc: Global,
+    checker: &mut Checker,
+    number: u64,
+    row: (&[u8], &[u8]),
+) -> Option<bool> {
+    let (line, wanted) = row;
+    let told = checker
+        .line(alloc, &mut Allocator { refused: false }, number, line)
+        .ok()?;
+    let mut sink = CheckedWriter::new(Vec::new(alloc));
+    if let Some(bad) = told {
+        let _whole = put_bad_line(&mut sink, &bad);
+    }
+    Some(sink.writer.as_slice() == wanted)
+}
+
+fn has_path_10(config: &Config) -> bool {
+    config.paths() == [0x10].as_slice()
 }
 
 /// How many bad lines there are in what room is granted; None where a growth was refused.

@@ -22,8 +22,13 @@ fn is_told(rt: &(impl AllocGlobal + Abort), refusal: Refusal, wanted: &[u8]) -> 
         units: Vec::new(alloc),
         paths: Vec::new(alloc),
     };
+    is_put(&parties, &refusal, wanted)
+}
+
+/// Whether this is put of a refusal.
+fn is_put(parties: &Parties, refusal: &Refusal, wanted: &[u8]) -> bool {
     let mut sink = Held::new();
-    let whole = put_refusal_reason(&mut sink, &parties, &refusal);
+    let whole = put_refusal_reason(&mut sink, parties, refusal);
     whole && sink.bytes() == wanted
 }
 
@@ -72,45 +77,50 @@ fn first_wire(rt: &impl Abort) -> Wire {
 
 #[test]
 fn empty_wires_are_told(rt: HostRuntime) {
-    let alone = Refusal::NothingWaits {
-        wire: first_wire(&rt),
-        elsewhere: None,
-    };
-    assert!(rt;
-        is_told(
-            &rt,
-            alone,
-            b"nothing waits down path 0; nor on any other of its wires"
-        )
-    );
-    let other = Refusal::NothingWaits {
-        wire: first_wire(&rt),
-        elsewhere: Some(accept(&rt)),
-    };
-    assert!(rt;
-        is_told(
-            &rt,
-            other,
-            b"nothing waits down path 0; up path 0: Accept 1 (up 0 0)"
-        )
-    );
+    for (elsewhere, wanted) in [
+        (
+            None,
+            b"nothing waits down path 0; nor on any other of its wires".as_slice(),
+        ),
+        (
+            Some(accept(&rt)),
+            b"nothing waits down path 0; up path 0: Accept 1 (up 0 0)".as_slice(),
+        ),
+    ] {
+        let wire = first_wire(&rt);
+        assert!(rt; is_told(&rt, Refusal::NothingWaits { wire, elsewhere }, wanted));
+    }
 }
 
 #[test]
 fn what_there_is_not_is_told(rt: HostRuntime) {
-    let subchannel = Refusal::NoSubchannel { word: 0x1_0005 };
-    assert!(rt; is_told(&rt, subchannel, b"subchannel 5 is not configured"));
-    let far = Refusal::NoSubchannel { word: 0x3_0005 };
-    assert!(rt; is_told(&rt, far, b"subchannel 30005 is not configured"));
-    let path = Refusal::NoPath {
-        subchannel: 0,
-        paths: 2,
-    };
-    assert!(rt; is_told(&rt, path, b"subchannel 0 has 2 paths, from 0"));
-    let channel = Refusal::NoChannelPath { chpid: 0x99 };
-    assert!(rt; is_told(&rt, channel, b"path 99 is not configured"));
-    let unit = Refusal::NoUnit { unit: 1 };
-    assert!(rt; is_told(&rt, unit, b"unit 1 is not configured"));
+    for (refusal, wanted) in [
+        (
+            Refusal::NoSubchannel { word: 0x1_0005 },
+            b"subchannel 5 is not configured".as_slice(),
+        ),
+        (
+            Refusal::NoSubchannel { word: 0x3_0005 },
+            b"subchannel 30005 is not configured".as_slice(),
+        ),
+        (
+            Refusal::NoPath {
+                subchannel: 0,
+                paths: 2,
+            },
+            b"subchannel 0 has 2 paths, from 0".as_slice(),
+        ),
+        (
+            Refusal::NoChannelPath { chpid: 0x99 },
+            b"path 99 is not configured".as_slice(),
+        ),
+        (
+            Refusal::NoUnit { unit: 1 },
+            b"unit 1 is not configured".as_slice(),
+        ),
+    ] {
+        assert!(rt; is_told(&rt, refusal, wanted));
+    }
 }
 
 #[test]
@@ -130,29 +140,21 @@ fn channel_paths_are_told(rt: HostRuntime) {
 
 #[test]
 fn units_that_wait_are_told(rt: HostRuntime) {
-    let down = UnitRefusal::Signal {
-        subchannel: 0,
-        front: select(&rt),
-    };
-    assert!(rt;
-        is_told(
-            &rt,
-            unit(down),
-            b"a signal waits for unit 1A: Select 12 on path 1 (down 0 1)"
-        )
-    );
-    let up = UnitRefusal::Signal {
-        subchannel: 0,
-        front: accept(&rt),
-    };
-    assert!(rt;
-        is_told(
-            &rt,
-            unit(up),
-            b"a signal waits of unit 1A: Accept 1 on path 0 (up 0 0)"
-        )
-    );
     for (why, wanted) in [
+        (
+            UnitRefusal::Signal {
+                subchannel: 0,
+                front: select(&rt),
+            },
+            b"a signal waits for unit 1A: Select 12 on path 1 (down 0 1)".as_slice(),
+        ),
+        (
+            UnitRefusal::Signal {
+                subchannel: 0,
+                front: accept(&rt),
+            },
+            b"a signal waits of unit 1A: Accept 1 on path 0 (up 0 0)".as_slice(),
+        ),
         (
             UnitRefusal::NoCommand,
             b"unit 1A has no command at hand".as_slice(),
@@ -173,18 +175,14 @@ fn units_that_wait_are_told(rt: HostRuntime) {
 
 #[test]
 fn units_that_are_held_are_told(rt: HostRuntime) {
-    let connected = UnitRefusal::Connected {
-        number: 1,
-        path: path(&rt, 0),
-    };
-    assert!(rt;
-        is_told(
-            &rt,
-            unit(connected),
-            b"program 1 is connected at unit 1A on path 0"
-        )
-    );
     for (why, wanted) in [
+        (
+            UnitRefusal::Connected {
+                number: 1,
+                path: path(&rt, 0),
+            },
+            b"program 1 is connected at unit 1A on path 0".as_slice(),
+        ),
         (
             UnitRefusal::Held { number: 1 },
             b"program 1 holds unit 1A".as_slice(),
@@ -287,10 +285,14 @@ fn bits_are_told(rt: HostRuntime) {
 }
 
 #[test]
-fn faults_alone_are_told(rt: HostRuntime) {
+fn want_of_room_is_told(rt: HostRuntime) {
     let full = b"8 signals wait on the wire, and it holds no more";
     assert!(rt; is_told(&rt, Refusal::WireFull, full));
     assert!(rt; is_told(&rt, Refusal::NoMemory, b"no memory is left"));
+}
+
+#[test]
+fn faults_alone_are_told(rt: HostRuntime) {
     for (fault, wanted) in [
         (Fault::NotSent, b"nothing waits on the wire".as_slice()),
         (

@@ -99,93 +99,132 @@ fn refusal(
     Some(refusal_of(subsystem, subsystem.storage(), &parties, action, fault))
 }
 
-/// Does an event; asserts that it is not refused.
-fn perform(rt: &impl Abort, subsystem: &mut Subsystem<Rotating>, event: &Event) {
-    let done = subsystem.step(event).is_ok();
-    assert!(rt; done);
+/// Does an event. False where it is refused.
+fn perform(subsystem: &mut Subsystem<Rotating>, event: &Event) -> bool {
+    subsystem.step(event).is_ok()
+}
+
+/// Addresses of blocks, and what tells them from one that is allowed.
+const BLOCKS: [(u32, u8, u8, u8); 5] = [
+    (0x500, 0x80, 0, 0),
+    (0x510, 0x84, 0, 0),
+    (0x520, 0x80, 1, 0),
+    (0x530, 0x80, 2, 0),
+    (0x540, 0x80, 0, 0x80),
+];
+
+/// Puts the blocks, and enables the subchannel.
+fn get_ready(rt: &impl Abort, subsystem: &mut Subsystem<Rotating>) -> bool {
+    for (address, flags, last, high) in BLOCKS {
+        if !perform(subsystem, &put(address, &orb(flags, last, high))) {
+            return false;
+        }
+    }
+    perform(subsystem, &enable(rt))
+}
+
+/// Offers the write to the unit.
+fn offer(rt: &impl Abort, subsystem: &mut Subsystem<Rotating>) -> bool {
+    perform(subsystem, &ssch(rt, 0x500)) && perform(subsystem, &Event::Choose { subchannel: WORD })
 }
 
 /// A machine at which a write is about to be started.
 fn ready(rt: &(impl AllocGlobal + Abort)) -> Option<Subsystem<Rotating>> {
     let alloc = rt.alloc();
     let mut subsystem = Subsystem::new(alloc, one_path(alloc), Rotating {}).ok()?;
-    perform(rt, &mut subsystem, &put(0x500, &orb(0x80, 0, 0)));
-    perform(rt, &mut subsystem, &put(0x510, &orb(0x84, 0, 0)));
-    perform(rt, &mut subsystem, &put(0x520, &orb(0x80, 1, 0)));
-    perform(rt, &mut subsystem, &put(0x530, &orb(0x80, 2, 0)));
-    perform(rt, &mut subsystem, &put(0x540, &orb(0x80, 0, 0x80)));
-    perform(rt, &mut subsystem, &enable(rt));
-    Some(subsystem)
+    if get_ready(rt, &mut subsystem) {
+        Some(subsystem)
+    } else {
+        None
+    }
 }
 
-/// The same, with its write offered to the unit.
-fn offered(rt: &(impl AllocGlobal + Abort)) -> Option<Subsystem<Rotating>> {
-    let mut subsystem = ready(rt)?;
-    perform(rt, &mut subsystem, &ssch(rt, 0x500));
-    perform(rt, &mut subsystem, &Event::Choose { subchannel: WORD });
-    Some(subsystem)
+#[test]
+fn bits_of_blocks_are_told(rt: HostRuntime) {
+    assert!(rt; tells_bits(&rt) == Some(true));
+}
+
+fn tells_bits(rt: &(impl AllocGlobal + Abort)) -> Option<bool> {
+    let subsystem = ready(rt)?;
+    Some(are_bits_told(rt, &subsystem))
+}
+
+/// Whether of each block the bit is told that is not allowed.
+fn are_bits_told(rt: &(impl AllocGlobal + Abort), subsystem: &Subsystem<Rotating>) -> bool {
+    let none = told_bit(rt, subsystem, 0x500);
+    let of_type = told_bit(rt, subsystem, 0x510);
+    let of_extension = told_bit(rt, subsystem, 0x520);
+    let reserved = told_bit(rt, subsystem, 0x530);
+    let of_address = told_bit(rt, subsystem, 0x540);
+    matches!(none, None)
+        && matches!(of_type, Some(OrbBit::ChannelProgramType))
+        && matches!(of_extension, Some(OrbBit::Extension))
+        && matches!(reserved, Some(OrbBit::Reserved))
+        && matches!(of_address, Some(OrbBit::ProgramAddress))
 }
 
 /// The bit of the block at this address that is told as refused.
-fn told_bit(rt: &(impl AllocGlobal + Abort), address: u32) -> Option<OrbBit> {
-    let subsystem = ready(rt)?;
+fn told_bit(
+    rt: &(impl AllocGlobal + Abort),
+    subsystem: &Subsystem<Rotating>,
+    address: u32,
+) -> Option<OrbBit> {
     let action = kept(&ssch(rt, address));
-    match refusal(rt.alloc(), &subsystem, &action, Fault::Operand)? {
+    match refusal(rt.alloc(), subsystem, &action, Fault::Operand)? {
         Refusal::Operand(OperandRefusal::Orb(bit)) => Some(bit),
         _ => None,
     }
 }
 
 #[test]
-fn bits_of_blocks_are_told(rt: HostRuntime) {
-    assert!(rt; matches!(told_bit(&rt, 0x500), None));
-    assert!(rt; matches!(told_bit(&rt, 0x510), Some(OrbBit::ChannelProgramType)));
-    assert!(rt; matches!(told_bit(&rt, 0x520), Some(OrbBit::Extension)));
-    assert!(rt; matches!(told_bit(&rt, 0x530), Some(OrbBit::Reserved)));
-    assert!(rt; matches!(told_bit(&rt, 0x540), Some(OrbBit::ProgramAddress)));
+fn boundaries_are_told(rt: HostRuntime) {
+    assert!(rt; tells_a_boundary(&rt) == Some(true));
 }
 
-#[test]
-fn boundaries_are_told(rt: HostRuntime) {
-    let Some(subsystem) = ready(&rt) else {
-        return;
-    };
+fn tells_a_boundary(rt: &(impl AllocGlobal + Abort)) -> Option<bool> {
+    let subsystem = ready(rt)?;
+    Some(is_boundary_told(rt, &subsystem))
+}
+
+/// Whether a block off its boundary is told.
+fn is_boundary_told(rt: &(impl AllocGlobal + Abort), subsystem: &Subsystem<Rotating>) -> bool {
     let fault = Fault::Storage(StorageFault::Specification);
-    let told = refusal(rt.alloc(), &subsystem, &kept(&ssch(&rt, 0x502)), fault);
-    assert!(rt;
-        matches!(
-            told,
-            Some(Refusal::Storage {
-                address: 0x502,
-                why: StorageRefusal::Specification(Boundary::Word),
-            })
-        )
-    );
+    let told = refusal(rt.alloc(), subsystem, &kept(&ssch(rt, 0x502)), fault);
+    matches!(
+        &told,
+        Some(Refusal::Storage {
+            address: 0x502,
+            why: StorageRefusal::Specification(Boundary::Word),
+        })
+    )
 }
 
 #[test]
 fn empty_wires_are_told(rt: HostRuntime) {
-    let Some(mut subsystem) = ready(&rt) else {
-        return;
-    };
+    assert!(rt; tells_empty_wires(&rt) == Some(true));
+}
+
+fn tells_empty_wires(rt: &(impl AllocGlobal + Abort)) -> Option<bool> {
+    let mut subsystem = ready(rt)?;
+    Some(are_wires_told(rt, &mut subsystem))
+}
+
+/// Whether it is told that nothing waits, and that an Accept does on the other wire as the write was offered.
+fn are_wires_told(rt: &(impl AllocGlobal + Abort), subsystem: &mut Subsystem<Rotating>) -> bool {
     let action = kept(&down());
-    let alone = refusal(rt.alloc(), &subsystem, &action, Fault::NotSent);
-    assert!(rt;
-        matches!(
-            alone,
+    let alone = refusal(rt.alloc(), &*subsystem, &action, Fault::NotSent);
+    let is_offered = offer(rt, subsystem) && perform(subsystem, &down());
+    let other = refusal(rt.alloc(), &*subsystem, &action, Fault::NotSent);
+    is_offered
+        && matches!(
+            &alone,
             Some(Refusal::NothingWaits {
                 elsewhere: None,
                 ..
             })
         )
-    );
-    perform(&rt, &mut subsystem, &ssch(&rt, 0x500));
-    perform(&rt, &mut subsystem, &Event::Choose { subchannel: WORD });
-    perform(&rt, &mut subsystem, &down());
-    let other = refusal(rt.alloc(), &subsystem, &action, Fault::NotSent);
-    assert!(rt;
-        matches!(
-            other,
+        && matches!(
+            &other,
             Some(Refusal::NothingWaits {
                 elsewhere: Some(Front {
                     signal: FrontSignal::Up(KeptUp::Accept { number: 1 }),
@@ -194,72 +233,83 @@ fn empty_wires_are_told(rt: HostRuntime) {
                 ..
             })
         )
-    );
 }
 
 #[test]
 fn units_are_told(rt: HostRuntime) {
-    let Some(mut subsystem) = offered(&rt) else {
-        return;
-    };
-    let waits = refusal(rt.alloc(), &subsystem, &KeptAction::Dev(0), Fault::NotNow);
-    assert!(rt;
-        matches!(
-            waits,
-            Some(Refusal::Unit {
-                unit: 0,
-                why: UnitRefusal::Signal {
-                    subchannel: 0,
-                    front: Front {
-                        signal: FrontSignal::Down(KeptDown::Select { number: 1 }),
-                        ..
-                    },
+    assert!(rt; tells_of_units(&rt) == Some(true));
+}
+
+fn tells_of_units(rt: &(impl AllocGlobal + Abort)) -> Option<bool> {
+    let mut subsystem = ready(rt)?;
+    Some(
+        offer(rt, &mut subsystem)
+            && is_signal_told(rt.alloc(), &subsystem)
+            && is_hold_told(rt.alloc(), &mut subsystem),
+    )
+}
+
+/// Whether a Select is told that waits for the unit.
+fn is_signal_told(alloc: Global, subsystem: &Subsystem<Rotating>) -> bool {
+    let waits = refusal(alloc, subsystem, &KeptAction::Dev(0), Fault::NotNow);
+    matches!(
+        &waits,
+        Some(Refusal::Unit {
+            unit: 0,
+            why: UnitRefusal::Signal {
+                subchannel: 0,
+                front: Front {
+                    signal: FrontSignal::Down(KeptDown::Select { number: 1 }),
+                    ..
                 },
-            })
-        )
-    );
-    perform(&rt, &mut subsystem, &down());
+            },
+        })
+    )
+}
+
+/// Whether the program is told that holds the unit, after that Select.
+fn is_hold_told(alloc: Global, subsystem: &mut Subsystem<Rotating>) -> bool {
     let act = UnitAct::Attention {
         path: 0,
         side: Side::First,
     };
     let action = kept(&Event::Act { unit: 0, act });
-    let held = refusal(rt.alloc(), &subsystem, &action, Fault::NotNow);
-    assert!(rt;
-        matches!(
-            held,
+    let is_taken = perform(subsystem, &down());
+    let held = refusal(alloc, &*subsystem, &action, Fault::NotNow);
+    is_taken
+        && matches!(
+            &held,
             Some(Refusal::Unit {
                 unit: 0,
                 why: UnitRefusal::Held { number: 1 },
             })
         )
-    );
 }
 
 #[test]
 fn what_there_is_not_is_told(rt: HostRuntime) {
-    let Some(subsystem) = ready(&rt) else {
-        return;
-    };
-    let unit = refusal(
-        rt.alloc(),
-        &subsystem,
-        &KeptAction::Dev(1),
-        Fault::NoSuchUnit,
-    );
-    assert!(rt; matches!(unit, Some(Refusal::NoUnit { unit: 1 })));
+    assert!(rt; tells_what_there_is_not(&rt) == Some(true));
+}
+
+fn tells_what_there_is_not(rt: &(impl AllocGlobal + Abort)) -> Option<bool> {
+    let subsystem = ready(rt)?;
+    Some(are_missing(rt.alloc(), &subsystem))
+}
+
+/// Whether a unit and a path are told that there are not.
+fn are_missing(alloc: Global, subsystem: &Subsystem<Rotating>) -> bool {
+    let unit = refusal(alloc, subsystem, &KeptAction::Dev(1), Fault::NoSuchUnit);
     let action = kept(&Event::Down {
         subchannel: WORD,
         path: 3,
     });
-    let path = refusal(rt.alloc(), &subsystem, &action, Fault::NoSuchPath);
-    assert!(rt;
-        matches!(
-            path,
+    let path = refusal(alloc, subsystem, &action, Fault::NoSuchPath);
+    matches!(&unit, Some(Refusal::NoUnit { unit: 1 }))
+        && matches!(
+            &path,
             Some(Refusal::NoPath {
                 subchannel: 0,
                 paths: 1,
             })
         )
-    );
 }

@@ -2,7 +2,6 @@
 
 use memory::{Allocator, FailingMemory};
 use std::alloc::Global;
-use std::test::Fail;
 use step_records::style::{Drawing, StorageLines, Style, Widths};
 use step_records::trace::Trace;
 use streams::CheckedWriter;
@@ -19,21 +18,21 @@ const STYLE: Style = Style {
     storage_lines: StorageLines::Together,
 };
 
-/// A script that was performed.
-fn traced(alloc: Global, script: &[u8]) -> Result<Trace, Fail> {
+/// The script, performed.
+fn traced(alloc: Global) -> Option<Trace> {
     let mut supply = Allocator { refused: false };
-    match trace_script(alloc, &mut supply, script.to_vec(alloc)?) {
-        Ok(trace) => Ok(trace),
-        Err(_) => Err(Fail::from("the script was not performed")),
-    }
+    let script = SCRIPT.to_vec(alloc).ok()?;
+    trace_script(alloc, &mut supply, script).ok()
 }
 
 /// Its page.
-fn page_of(alloc: Global, trace: &Trace) -> Result<Vec<u8>, Fail> {
+fn page_of(alloc: Global, trace: &Trace) -> Option<Vec<u8>> {
     let mut supply = Allocator { refused: false };
     let mut sink = CheckedWriter::new(Vec::new(alloc));
-    let _ = put_page(alloc, &mut supply, &mut sink, trace, STYLE)?;
-    Ok(sink.writer)
+    match put_page(alloc, &mut supply, &mut sink, trace, STYLE) {
+        Ok(_) => Some(sink.writer),
+        Err(_) => None,
+    }
 }
 
 /// How often a text stands in a page.
@@ -47,66 +46,94 @@ fn count(page: &[u8], text: &[u8]) -> usize {
     found
 }
 
-#[test]
-fn a_comment_is_shown_and_is_no_markup(rt: HostRuntime) -> Result<(), Fail> {
-    let trace = traced(rt.alloc(), SCRIPT)?;
-    let page = page_of(rt.alloc(), &trace)?;
-    let shown = b"&lt;script&gt;alert(&quot;1 &amp; 2&quot;)&lt;/script&gt;";
-    assert_eq!(rt; count(&page, shown), 2, "in the title and in the heading");
-    assert_eq!(rt; count(&page, b"<script"), 0);
-    assert_eq!(rt; count(&page, b"<p>the second</p>"), 1);
-    Ok(())
-}
-
-#[test]
-fn a_signal_is_drawn_from_where_it_was_sent(rt: HostRuntime) -> Result<(), Fail> {
-    let trace = traced(rt.alloc(), SCRIPT)?;
-    let page = page_of(rt.alloc(), &trace)?;
-    assert_eq!(rt; count(&page, b"<line class=\"signal lost p0\""), 1);
-    assert_eq!(rt;
-        count(&page, b"sent in line 11, lost in line 12</title>"),
-        1
-    );
-    assert_eq!(rt; count(&page, b">Select 1 lost</text>"), 1);
-    assert_eq!(rt;
-        count(&page, b"<td>Select 1</td><td>lost in line 12</td>"),
-        1
-    );
-    Ok(())
-}
-
-#[test]
-fn each_line_that_acts_has_a_row(rt: HostRuntime) -> Result<(), Fail> {
-    let trace = traced(rt.alloc(), SCRIPT)?;
-    let page = page_of(rt.alloc(), &trace)?;
-    assert_eq!(rt;
-        count(&page, b"<details id=\"l"),
-        5,
-        "both lines of put in one"
-    );
-    assert_eq!(rt; count(&page, b"href=\"#l"), 5);
-    assert_eq!(rt; count(&page, b"put to line 8</text>"), 1);
-    assert_eq!(rt; count(&page, b"<svg "), 2);
-    assert_eq!(rt; count(&page, b"</svg>"), 2);
-    Ok(())
-}
-
-#[test]
-fn without_memory_nothing_goes_in(rt: HostRuntime) -> Result<(), Fail> {
-    let trace = traced(rt.alloc(), SCRIPT)?;
-    let page = page_of(rt.alloc(), &trace)?;
-    for refusal in 0..2_000u64 {
-        let mut supply = FailingMemory {
-            left: refusal * 101,
-            refused: false,
-        };
-        let mut sink = CheckedWriter::new(Vec::new(rt.alloc()));
-        if put_page(rt.alloc(), &mut supply, &mut sink, &trace, STYLE).is_ok() {
-            assert_eq!(rt; sink.writer.as_slice(), page.as_slice());
-            return Ok(());
+/// Whether each text stands in a page so often.
+fn has_texts(page: &[u8], texts: &[(&[u8], usize)]) -> bool {
+    for (text, times) in texts {
+        if count(page, text) != *times {
+            return false;
         }
-        assert!(rt; supply.refused && sink.writer.is_empty());
     }
-    assert!(rt; false, "no memory was enough");
-    Ok(())
+    true
+}
+
+/// Whether each text stands so often in the page of the script.
+fn draws(alloc: Global, texts: &[(&[u8], usize)]) -> Option<bool> {
+    let trace = traced(alloc)?;
+    let page = page_of(alloc, &trace)?;
+    Some(has_texts(page.as_slice(), texts))
+}
+
+#[test]
+fn a_comment_is_shown_and_is_no_markup(rt: HostRuntime) {
+    let texts: [(&[u8], usize); 3] = [
+        // In the title and in the heading.
+        (
+            b"&lt;script&gt;alert(&quot;1 &amp; 2&quot;)&lt;/script&gt;",
+            2,
+        ),
+        (b"<script", 0),
+        (b"<p>the second</p>", 1),
+    ];
+    assert!(rt; draws(rt.alloc(), &texts) == Some(true));
+}
+
+#[test]
+fn a_signal_is_drawn_from_where_it_was_sent(rt: HostRuntime) {
+    let texts: [(&[u8], usize); 4] = [
+        (b"<line class=\"signal lost p0\"", 1),
+        (b"sent in line 11, lost in line 12</title>", 1),
+        (b">Select 1 lost</text>", 1),
+        (b"<td>Select 1</td><td>lost in line 12</td>", 1),
+    ];
+    assert!(rt; draws(rt.alloc(), &texts) == Some(true));
+}
+
+#[test]
+fn each_line_that_acts_has_a_row(rt: HostRuntime) {
+    let texts: [(&[u8], usize); 5] = [
+        // Both lines of put in one.
+        (b"<details id=\"l", 5),
+        (b"href=\"#l", 5),
+        (b"put to line 8</text>", 1),
+        (b"<svg ", 2),
+        (b"</svg>", 2),
+    ];
+    assert!(rt; draws(rt.alloc(), &texts) == Some(true));
+}
+
+#[test]
+fn without_memory_nothing_goes_in(rt: HostRuntime) {
+    assert!(rt; draws_at_last(rt.alloc()) == Some(true));
+}
+
+fn draws_at_last(alloc: Global) -> Option<bool> {
+    let trace = traced(alloc)?;
+    let page = page_of(alloc, &trace)?;
+    Some(is_drawn_at_last(alloc, &trace, page.as_slice()))
+}
+
+/// Whether the page is drawn as enough requests are granted, and nothing goes in before.
+fn is_drawn_at_last(alloc: Global, trace: &Trace, page: &[u8]) -> bool {
+    for refusal in 0..2_000u64 {
+        if let Some(is_drawn) = is_drawn_in(alloc, trace, page, refusal * 101) {
+            return is_drawn;
+        }
+    }
+    false
+}
+
+/// Whether the page is drawn where so many requests are granted. None where nothing goes in.
+fn is_drawn_in(alloc: Global, trace: &Trace, page: &[u8], left: u64) -> Option<bool> {
+    let mut supply = FailingMemory {
+        left,
+        refused: false,
+    };
+    let mut sink = CheckedWriter::new(Vec::new(alloc));
+    let is_put = put_page(alloc, &mut supply, &mut sink, trace, STYLE).is_ok();
+    let written = sink.writer.as_slice();
+    if !is_put && supply.refused && written.is_empty() {
+        None
+    } else {
+        Some(is_put && written == page)
+    }
 }

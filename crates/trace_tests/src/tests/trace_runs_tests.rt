@@ -146,20 +146,30 @@ fn all_that_moves_is_accounted_for(rt: HostRuntime) {
 
 #[test]
 fn a_bad_line_is_told(rt: HostRuntime) {
-    let text = text_of(rt.alloc(), b"storage 10\nsshc 0 500\n");
-    let fault = trace_script(rt.alloc(), &mut Allocator { refused: false }, text).err();
-    assert!(rt; matches!(fault, Some(TraceFault::Bad { line: 2, .. })));
+    assert!(rt; is_second_line_bad(rt.alloc(), b"storage 10\nsshc 0 500\n"));
+}
+
+fn is_second_line_bad(alloc: Global, script: &[u8]) -> bool {
+    let text = text_of(alloc, script);
+    let fault = trace_script(alloc, &mut Allocator { refused: false }, text).err();
+    matches!(&fault, Some(TraceFault::Bad { line: 2, .. }))
 }
 
 #[test]
 fn want_of_memory_is_told(rt: HostRuntime) {
     for left in 0..40u64 {
-        let mut supply = FailingMemory {
-            left,
-            refused: false,
-        };
-        let text = text_of(rt.alloc(), ONE_WRITE);
-        let fault = trace_script(rt.alloc(), &mut supply, text).err();
-        assert!(rt; matches!(fault, Some(TraceFault::NoMemory)));
+        assert!(rt;
+            fault_in(rt.alloc(), left) == Some(TraceFault::NoMemory),
+            "{left}"
+        );
     }
+}
+
+/// Why there is no trace of the write in what room is granted.
+fn fault_in(alloc: Global, left: u64) -> Option<TraceFault> {
+    let mut supply = FailingMemory {
+        left,
+        refused: false,
+    };
+    trace_script(alloc, &mut supply, text_of(alloc, ONE_WRITE)).err()
 }

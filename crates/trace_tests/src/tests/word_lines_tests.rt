@@ -1,5 +1,6 @@
 //! What the examples of the sheets say, a status word with a check, and lines that have no block.
 
+use std::alloc::Global;
 use streams::CheckedWriter;
 use word_lines::{WordsEnd, put_words};
 
@@ -34,9 +35,14 @@ fn blocks_are_decoded(rt: HostRuntime) {
         (IRB, IRB_SAYS, WordsEnd::Decoded),
         (BAD, BAD_SAYS, WordsEnd::SomeBad),
     ];
-    for (text, says, end) in &rows {
-        let mut sink = CheckedWriter::new(Vec::new(rt.alloc()));
-        let found = put_words(&mut sink, text);
-        assert!(rt; found == *end && sink.writer.as_slice() == *says);
+    for (text, says, end) in rows {
+        assert!(rt; decodes(rt.alloc(), text, says) == (end, true));
     }
+}
+
+/// How a decoding ended, and whether this is what was put.
+fn decodes(alloc: Global, text: &[u8], says: &[u8]) -> (WordsEnd, bool) {
+    let mut sink = CheckedWriter::new(Vec::new(alloc));
+    let end = put_words(&mut sink, text);
+    (end, sink.writer.as_slice() == says)
 }
