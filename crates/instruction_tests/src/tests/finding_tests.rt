@@ -87,56 +87,59 @@ fn four(alloc: Global) -> Result<Vec<Subchannel>, AllocError> {
     with(subs, subchannel(alloc, named(0, 5), 9, Side::Second, away))
 }
 
-#[test]
-fn the_first_subchannel_of_a_name_is_found(rt: HostRuntime) -> Result<(), AllocError> {
-    let subs = four(rt.alloc())?;
-    let indices = SubchannelIndex::of(rt.alloc(), &mut Allocator { refused: false }, 2, 3, &subs)?;
-    for (set, number, index) in [
-        (0, 5, Some(0)),
-        (1, 0, Some(1)),
-        (1, 0xFF, Some(2)),
-        (0, 0, None),
-        (0, 0x100, None),
-        (0, 0x105, None),
-        (2, 5, None),
-    ] {
-        let found = indices.index_in(SubchannelId { set, number }, &subs);
-        assert!(rt; found == index, "at {set} {number}");
+/// Names, and the index of the first subchannel of each.
+const NAMES: [(u8, u16, Option<usize>); 7] = [
+    (0, 5, Some(0)),
+    (1, 0, Some(1)),
+    (1, 0xFF, Some(2)),
+    (0, 0, None),
+    (0, 0x100, None),
+    (0, 0x105, None),
+    (2, 5, None),
+];
+
+/// Sides of units, and the index of the subchannel that reaches each.
+const SIDES: [(usize, Side, Option<usize>); 8] = [
+    (0, Side::First, Some(1)),
+    (0, Side::Second, Some(2)),
+    (1, Side::First, None),
+    (1, Side::Second, None),
+    (2, Side::First, Some(0)),
+    (2, Side::Second, None),
+    (9, Side::First, None),
+    (9, Side::Second, Some(3)),
+];
+
+/// Whether the subchannel of each name and of each side is found by tables of so many sets and units.
+fn are_found(
+    alloc: Global,
+    sets: u8,
+    units: usize,
+    subs: &[Subchannel],
+) -> Result<bool, AllocError> {
+    let mut supply = Allocator { refused: false };
+    let indices = SubchannelIndex::of(alloc, &mut supply, sets, units, subs)?;
+    let mut all = true;
+    for (set, number, index) in NAMES {
+        all = indices.index_in(named(set, number), subs) == index && all;
     }
-    Ok(())
+    for (unit, side, index) in SIDES {
+        all = indices.reached_in(unit, side, subs) == index && all;
+    }
+    Ok(all)
+}
+
+/// The same of the four subchannels.
+fn are_four_found(alloc: Global, sets: u8, units: usize) -> Result<bool, AllocError> {
+    let subs = four(alloc)?;
+    are_found(alloc, sets, units, &subs)
 }
 
 #[test]
-fn a_name_beyond_the_tables_is_found(rt: HostRuntime) -> Result<(), AllocError> {
-    let subs = four(rt.alloc())?;
-    let indices = SubchannelIndex::of(rt.alloc(), &mut Allocator { refused: false }, 1, 0, &subs)?;
-    let id = SubchannelId { set: 1, number: 0 };
-    assert!(rt;
-        indices.index_in(id, &subs) == Some(1)
-            && indices.reached_in(2, Side::First, &subs) == Some(0)
-    );
-    Ok(())
-}
-
-#[test]
-fn the_subchannel_of_a_side_is_found(rt: HostRuntime) -> Result<(), AllocError> {
-    let subs = four(rt.alloc())?;
-    let indices = SubchannelIndex::of(rt.alloc(), &mut Allocator { refused: false }, 2, 3, &subs)?;
-    for (unit, first, second) in [
-        (0, Some(1), Some(2)),
-        (1, None, None),
-        (2, Some(0), None),
-        (9, None, Some(3)),
-    ] {
-        assert!(rt;
-            indices.reached_in(unit, Side::First, &subs) == first,
-            "at {unit}"
-        );
-        assert!(rt;
-            indices.reached_in(unit, Side::Second, &subs) == second,
-            "at {unit}"
-        );
-    }
+fn subchannels_are_found_by_tables_and_beyond_them(rt: HostRuntime) -> Result<(), AllocError> {
+    let by_tables = are_four_found(rt.alloc(), 2, 3)?;
+    let beyond_them = are_four_found(rt.alloc(), 1, 0)?;
+    assert!(rt; by_tables && beyond_them);
     Ok(())
 }
 
@@ -190,17 +193,20 @@ fn granting(alloc: Global, units: usize) -> Result<(bool, bool), AllocError> {
     Ok((made, supply.refused))
 }
 
+/// Whether the indices are made where as many requests are granted as they take, and each fewer is refused in turn.
+fn are_refused_in_turn(alloc: Global, units: usize, requests: u64) -> Result<bool, AllocError> {
+    let mut all = granting(alloc, units)? == (true, false);
+    for left in 0..5 {
+        let found = refusing(alloc, left, units)?;
+        all = found == (left >= requests, left < requests) && all;
+    }
+    Ok(all)
+}
+
 #[test]
 fn each_request_for_room_is_refused_in_turn(rt: HostRuntime) -> Result<(), AllocError> {
-    for (units, requests) in [(3, 3), (0, 1)] {
-        for left in 0..=requests + 1 {
-            let (made, refused) = refusing(rt.alloc(), left, units)?;
-            assert!(rt; made == (left >= requests), "{units} {left}");
-            assert!(rt; refused == (left < requests), "{units} {left}");
-            let (made, refused) = granting(rt.alloc(), units)?;
-            assert!(rt; made);
-            assert!(rt; !refused, "{units} {left}");
-        }
-    }
+    let of_tables = are_refused_in_turn(rt.alloc(), 3, 3)?;
+    let of_none = are_refused_in_turn(rt.alloc(), 0, 1)?;
+    assert!(rt; of_tables && of_none);
     Ok(())
 }

@@ -81,111 +81,165 @@ fn clear(state: &mut PackedState) -> Option<ConditionCode> {
     }
 }
 
+/// Whether START SUBCHANNEL has these codes: where the subchannel is not enabled, and where its status word begins so.
+fn are_start_codes() -> bool {
+    let mut all = ssch_code(&disabled(0)) == ConditionCode::Three;
+    for (word, code) in [
+        (0x0080_4007, ConditionCode::One),
+        (0x0000_0011, ConditionCode::One),
+        (0x0080_4400, ConditionCode::Two),
+        (0x0000_2200, ConditionCode::Two),
+        (0x0000_1100, ConditionCode::Two),
+        (0x0080_0040, ConditionCode::Zero),
+    ] {
+        all = ssch_code(&found(word)) == code && all;
+    }
+    all
+}
+
+/// Whether MODIFY SUBCHANNEL has these codes, though the subchannel is not enabled.
+fn are_modify_codes() -> bool {
+    let mut all = true;
+    for (word, code) in [
+        (0x0080_4007, ConditionCode::One),
+        (0x0000_2200, ConditionCode::Two),
+        (0, ConditionCode::Zero),
+    ] {
+        all = msch_code(&disabled(word)) == code && all;
+    }
+    all
+}
+
 #[test]
 fn codes_of_start_and_modify(rt: HostRuntime) {
-    assert!(rt;
-        ssch_code(&disabled(0)) == ConditionCode::Three
-            && ssch_code(&found(0x0080_4007)) == ConditionCode::One
-            && ssch_code(&found(0x0000_0011)) == ConditionCode::One
-    );
-    assert!(rt;
-        ssch_code(&found(0x0080_4400)) == ConditionCode::Two
-            && ssch_code(&found(0x0000_2200)) == ConditionCode::Two
-            && ssch_code(&found(0x0000_1100)) == ConditionCode::Two
-            && ssch_code(&found(0x0080_0040)) == ConditionCode::Zero
-    );
-    assert!(rt;
-        msch_code(&disabled(0x0080_4007)) == ConditionCode::One
-            && msch_code(&disabled(0x0000_2200)) == ConditionCode::Two
-            && msch_code(&disabled(0)) == ConditionCode::Zero
-    );
+    assert!(rt; are_start_codes() && are_modify_codes());
+}
+
+/// Whether RESUME SUBCHANNEL has these codes: where the subchannel is not enabled, and where its status word begins so.
+fn are_resume_codes() -> bool {
+    let mut all = rsch_code(&disabled(0x0880_4020)) == ConditionCode::Three;
+    for (word, code) in [
+        (0x0880_4029, ConditionCode::One),
+        (0x0880_4820, ConditionCode::Two),
+        (0x0880_6020, ConditionCode::Two),
+        (0x0080_40C0, ConditionCode::Two),
+        (0x0880_4020, ConditionCode::Zero),
+    ] {
+        all = rsch_code(&found(word)) == code && all;
+    }
+    all
+}
+
+/// The same of CANCEL SUBCHANNEL.
+fn are_cancel_codes() -> bool {
+    let mut all = xsch_code(&disabled(0x0080_4400)) == ConditionCode::Three;
+    for (word, code) in [
+        (0x0880_4029, ConditionCode::One),
+        (0x0080_0000, ConditionCode::Two),
+        (0x0080_4040, ConditionCode::Two),
+        (0x0880_48C0, ConditionCode::Two),
+        (0x0080_4440, ConditionCode::Zero),
+    ] {
+        all = xsch_code(&found(word)) == code && all;
+    }
+    all
 }
 
 #[test]
 fn codes_of_resume_and_cancel(rt: HostRuntime) {
-    assert!(rt;
-        rsch_code(&disabled(0x0880_4020)) == ConditionCode::Three
-            && rsch_code(&found(0x0880_4029)) == ConditionCode::One
-            && rsch_code(&found(0x0880_4820)) == ConditionCode::Two
-            && rsch_code(&found(0x0880_6020)) == ConditionCode::Two
-    );
-    assert!(rt;
-        rsch_code(&found(0x0080_40C0)) == ConditionCode::Two
-            && rsch_code(&found(0x0880_4020)) == ConditionCode::Zero
-            && xsch_code(&disabled(0x0080_4400)) == ConditionCode::Three
-            && xsch_code(&found(0x0880_4029)) == ConditionCode::One
-    );
-    assert!(rt;
-        xsch_code(&found(0x0080_0000)) == ConditionCode::Two
-            && xsch_code(&found(0x0080_4040)) == ConditionCode::Two
-            && xsch_code(&found(0x0880_48C0)) == ConditionCode::Two
-            && xsch_code(&found(0x0080_4440)) == ConditionCode::Zero
-    );
+    assert!(rt; are_resume_codes() && are_cancel_codes());
+}
+
+/// The same of HALT SUBCHANNEL.
+fn are_halt_codes() -> bool {
+    let mut all = hsch_code(&disabled(0)) == ConditionCode::Three;
+    for (word, code) in [
+        (0x0080_4007, ConditionCode::One),
+        (0x0000_1001, ConditionCode::One),
+        (0x0000_2200, ConditionCode::Two),
+        (0x0000_1100, ConditionCode::Two),
+        (0x0080_40C9, ConditionCode::Zero),
+    ] {
+        all = hsch_code(&found(word)) == code && all;
+    }
+    all
+}
+
+/// The same of CLEAR SUBCHANNEL.
+fn are_clear_codes() -> bool {
+    let not_enabled = csch_code(&disabled(0));
+    let ended = csch_code(&found(0x0080_4007));
+    let clearing = csch_code(&found(0x0000_1100));
+    not_enabled == ConditionCode::Three
+        && ended == ConditionCode::Zero
+        && clearing == ConditionCode::Zero
 }
 
 #[test]
 fn codes_of_halt_and_clear(rt: HostRuntime) {
-    assert!(rt;
-        hsch_code(&disabled(0)) == ConditionCode::Three
-            && hsch_code(&found(0x0080_4007)) == ConditionCode::One
-            && hsch_code(&found(0x0000_1001)) == ConditionCode::One
-    );
-    assert!(rt;
-        hsch_code(&found(0x0000_2200)) == ConditionCode::Two
-            && hsch_code(&found(0x0000_1100)) == ConditionCode::Two
-            && hsch_code(&found(0x0080_40C9)) == ConditionCode::Zero
-    );
-    assert!(rt;
-        csch_code(&disabled(0)) == ConditionCode::Three
-            && csch_code(&found(0x0080_4007)) == ConditionCode::Zero
-            && csch_code(&found(0x0000_1100)) == ConditionCode::Zero
-    );
+    assert!(rt; are_halt_codes() && are_clear_codes());
 }
 
 #[test]
 fn codes_of_store_and_test(rt: HostRuntime) {
+    let stored = stsch_code(&disabled(0x0080_4007));
+    let not_enabled = tsch_code(&disabled(0x0080_4007));
+    let none_pending = tsch_code(&found(0x0080_0000));
+    let pending = tsch_code(&found(0x0080_4007));
     assert!(rt;
-        stsch_code(&disabled(0x0080_4007)) == ConditionCode::Zero
-            && tsch_code(&disabled(0x0080_4007)) == ConditionCode::Three
-            && tsch_code(&found(0x0080_0000)) == ConditionCode::One
-            && tsch_code(&found(0x0080_4007)) == ConditionCode::Zero
+        stored == ConditionCode::Zero
+            && not_enabled == ConditionCode::Three
+            && none_pending == ConditionCode::One
+            && pending == ConditionCode::Zero
     );
+}
+
+/// Whether a program is started with the words of its ORB, and a second is not while it waits.
+fn starts_once(state: &mut PackedState) -> bool {
+    let started = start(state) == Some(ConditionCode::Zero);
+    let shown = is_same_words(state, [0x0080_4440, 0x1000, 0]);
+    let waits = is_third_waiting(state);
+    let busy = start(state) == Some(ConditionCode::Two);
+    started && shown && waits && busy && state.rest().starts == 3
+}
+
+/// Whether the third program waits, in single-path mode, with the parameter and the paths of its ORB.
+fn is_third_waiting(state: &PackedState) -> bool {
+    let waits = matches!(
+        &state.rest().waiting,
+        Some(Program {
+            start: 3,
+            single_path: true,
+            ..
+        })
+    );
+    waits
+        && state.rest().starts == 3
+        && state.parameter() == 7
+        && state.logical().mask() == 0x81
+        && !state.not_operational().any()
 }
 
 #[test]
 fn a_program_is_started_once(rt: HostRuntime) {
-    let mut state = subchannel([0x0381_0040, 0x1008, 0x0C00_0000]);
-    assert!(rt;
-        start(&mut state) == Some(ConditionCode::Zero)
-            && is_same_words(&state, [0x0080_4440, 0x1000, 0])
-            && state.rest().starts == 3
-            && state.parameter() == 7
-            && state.logical().mask() == 0x81
-    );
-    assert!(rt;
-        !state.not_operational().any()
-            && matches!(
-                state.rest().waiting,
-                Some(Program {
-                    start: 3,
-                    single_path: true,
-                    ..
-                })
-            )
-            && start(&mut state) == Some(ConditionCode::Two)
-            && state.rest().starts == 3
-    );
+    let once = starts_once(&mut subchannel([0x0381_0040, 0x1008, 0x0C00_0000]));
+    assert!(rt; once);
+}
+
+/// Whether a start is cancelled once.
+fn cancels_start(state: &mut PackedState) -> bool {
+    let started = start(state) == Some(ConditionCode::Zero);
+    let cancelled = xsch(state) == ConditionCode::Zero;
+    let shown = is_same_words(state, [0x0080_0000, 0x1000, 0]);
+    let over = state.rest().waiting.is_none();
+    let not_again = xsch(state) == ConditionCode::Two;
+    started && cancelled && shown && over && not_again
 }
 
 #[test]
 fn a_start_is_cancelled(rt: HostRuntime) {
-    let mut state = subchannel([0, 0, 0]);
-    assert!(rt;
-        start(&mut state) == Some(ConditionCode::Zero)
-            && xsch(&mut state) == ConditionCode::Zero
-            && is_same_words(&state, [0x0080_0000, 0x1000, 0])
-    );
-    assert!(rt; state.rest().waiting.is_none() && xsch(&mut state) == ConditionCode::Two);
+    let cancelled = cancels_start(&mut subchannel([0, 0, 0]));
+    assert!(rt; cancelled);
 }
 
 /// A suspended program.
@@ -210,30 +264,42 @@ fn with_suspended(words: [u32; 3]) -> PackedState {
     })
 }
 
+/// Whether a suspended program is cancelled once.
+fn cancels_suspended(state: &mut PackedState) -> bool {
+    let stood = state.rest().suspended.is_some();
+    let cancelled = xsch(state) == ConditionCode::Zero;
+    let shown = is_same_words(state, [0x0880_0000, 0x1008, 0x0000_0004]);
+    let over = state.rest().suspended.is_none();
+    let not_again = xsch(state) == ConditionCode::Two;
+    stood && cancelled && shown && over && not_again
+}
+
 #[test]
 fn a_suspended_program_is_cancelled(rt: HostRuntime) {
-    let mut state = with_suspended([0x0880_4820, 0x1008, 0x0000_0004]);
-    assert!(rt;
-        state.rest().suspended.is_some()
-            && xsch(&mut state) == ConditionCode::Zero
-            && is_same_words(&state, [0x0880_0000, 0x1008, 0x0000_0004])
-    );
-    assert!(rt; state.rest().suspended.is_none() && xsch(&mut state) == ConditionCode::Two);
+    let cancelled = cancels_suspended(&mut with_suspended([0x0880_4820, 0x1008, 0x0000_0004]));
+    assert!(rt; cancelled);
+}
+
+/// Whether a suspended program is resumed once, and stays.
+fn resumes_suspended(state: &mut PackedState) -> bool {
+    let resumed = rsch(state) == ConditionCode::Zero;
+    let shown = is_same_words(state, [0x0880_4820, 0x1008, 0]);
+    let forgotten = !state.not_operational().any();
+    let not_again = rsch(state) == ConditionCode::Two;
+    resumed && shown && forgotten && not_again && state.rest().suspended.is_some()
+}
+
+/// Whether a program is resumed that is at work, and the paths that are not operational are kept.
+fn resumes_active(state: &mut PackedState) -> bool {
+    let resumed = rsch(state) == ConditionCode::Zero;
+    resumed && state.not_operational().mask() == 0xFF
 }
 
 #[test]
 fn a_suspended_program_is_resumed(rt: HostRuntime) {
-    let mut state = with_suspended([0x0880_4020, 0x1008, 0]);
-    assert!(rt;
-        rsch(&mut state) == ConditionCode::Zero
-            && is_same_words(&state, [0x0880_4820, 0x1008, 0])
-            && !state.not_operational().any()
-    );
-    assert!(rt; rsch(&mut state) == ConditionCode::Two && state.rest().suspended.is_some());
-    let mut active = subchannel([0x0880_40C0, 0x1008, 0]);
-    assert!(rt;
-        rsch(&mut active) == ConditionCode::Zero && active.not_operational().mask() == 0xFF
-    );
+    let of_suspended = resumes_suspended(&mut with_suspended([0x0880_4020, 0x1008, 0]));
+    let of_active = resumes_active(&mut subchannel([0x0880_40C0, 0x1008, 0]));
+    assert!(rt; of_suspended && of_active);
 }
 
 /// How many statuses were made, and how many were cleared.
@@ -242,70 +308,94 @@ fn counts(state: &PackedState) -> (u64, u64) {
     (serials.made, serials.cleared)
 }
 
+/// Whether the subchannel is halted, with these words and so many statuses made and cleared.
+fn halts(state: &mut PackedState, words: [u32; 3], wanted: (u64, u64)) -> bool {
+    let halted = hsch(state) == ConditionCode::Zero;
+    let shown = is_same_words(state, words);
+    halted && shown && counts(state) == wanted
+}
+
+/// Whether intermediate status is dropped, and all paths are operational again.
+fn drops_intermediate(state: &mut PackedState) -> bool {
+    let dropped = halts(state, [0x0080_62C0, 0x1008, 0x0080_0004], (9, 9));
+    dropped && !state.not_operational().any()
+}
+
 #[test]
 fn a_halt_drops_intermediate_status_alone(rt: HostRuntime) {
-    let mut state = subchannel([0x0080_40C9, 0x1008, 0x0080_0004]);
-    assert!(rt;
-        hsch(&mut state) == ConditionCode::Zero
-            && is_same_words(&state, [0x0080_62C0, 0x1008, 0x0080_0004])
-            && counts(&state) == (9, 9)
-            && !state.not_operational().any()
+    let dropped = drops_intermediate(&mut subchannel([0x0080_40C9, 0x1008, 0x0080_0004]));
+    let kept = halts(
+        &mut subchannel([0x0880_4029, 0x1008, 0]),
+        [0x0880_6229, 0x1008, 0],
+        (9, 8),
     );
-    let mut suspended = subchannel([0x0880_4029, 0x1008, 0]);
-    assert!(rt;
-        hsch(&mut suspended) == ConditionCode::Zero
-            && is_same_words(&suspended, [0x0880_6229, 0x1008, 0])
-            && counts(&suspended) == (9, 8)
-    );
+    assert!(rt; dropped && kept);
+}
+
+/// Whether a start is cleared with its words and its status, and may be cleared again.
+fn clears_start(state: &mut PackedState) -> bool {
+    let started = start(state) == Some(ConditionCode::Zero);
+    let cleared = clear(state) == Some(ConditionCode::Zero);
+    let shown = is_same_words(state, [0x0000_1100, 0, 0]);
+    let counted = counts(state) == (9, 9);
+    let left = has_reset_due(state);
+    let cleared_again = clear(state) == Some(ConditionCode::Zero);
+    started && cleared && shown && counted && left && cleared_again
+}
+
+/// Whether a Reset is to be sent under the next number, no program waits, and of the paths the last alone is kept.
+fn has_reset_due(state: &PackedState) -> bool {
+    let rest = state.rest();
+    matches!(&rest.hold.phase, HoldPhase::Reset { number: 5 })
+        && rest.drawn == 5
+        && rest.waiting.is_none()
+        && rest.dedicated.is_none()
+        && rest.last_path.is_some()
+        && state.last_used().is_none()
+        && state.operational().mask() == 0xFF
+        && !state.not_operational().any()
+}
+
+/// Whether a suspended program is cleared.
+fn clears_suspended(state: &mut PackedState) -> bool {
+    let cleared = clear(state) == Some(ConditionCode::Zero);
+    cleared && state.rest().suspended.is_none()
 }
 
 #[test]
 fn a_clear_leaves_nothing_but_itself(rt: HostRuntime) {
-    let mut state = subchannel([0, 0, 0]);
-    assert!(rt;
-        start(&mut state) == Some(ConditionCode::Zero)
-            && clear(&mut state) == Some(ConditionCode::Zero)
-            && is_same_words(&state, [0x0000_1100, 0, 0])
-            && counts(&state) == (9, 9)
-    );
-    let rest = state.rest();
-    assert!(rt;
-        matches!(rest.hold.phase, HoldPhase::Reset { number: 5 })
-            && rest.drawn == 5
-            && rest.waiting.is_none()
-            && rest.dedicated.is_none()
-            && rest.last_path.is_some()
-    );
-    assert!(rt;
-        state.last_used().is_none()
-            && state.operational().mask() == 0xFF
-            && !state.not_operational().any()
-            && clear(&mut state) == Some(ConditionCode::Zero)
-    );
-    let mut held = with_suspended([0x0880_4020, 0x1008, 0]);
-    assert!(rt; clear(&mut held) == Some(ConditionCode::Zero) && held.rest().suspended.is_none());
+    let of_start = clears_start(&mut subchannel([0, 0, 0]));
+    let of_suspended = clears_suspended(&mut with_suspended([0x0880_4020, 0x1008, 0]));
+    assert!(rt; of_start && of_suspended);
 }
 
 /// The words of a block for MODIFY SUBCHANNEL: parameter 5, ISC 7, enabled, D one, LPM C0, POM 81.
 const GIVEN: [u32; 7] = [5, 0x3884_0000, 0xC000_0000, 0x0000_8100, 0, 0, 0];
 
+/// Whether the words are placed, and what the block has no leave to change is kept.
+fn modifies(state: &mut PackedState) -> bool {
+    let modified = msch(state, &GIVEN) == ConditionCode::Zero;
+    modified
+        && state.parameter() == 5
+        && state.subclass() == 7
+        && state.is_enabled()
+        && state.is_multipath()
+        && state.logical().mask() == 0xC0
+        && state.operational().mask() == 0x81
+        && state.not_operational().mask() == 0xFF
+}
+
+/// Whether a subchannel that is busy is not modified.
+fn modifies_nothing(state: &mut PackedState) -> bool {
+    let busy = msch(state, &GIVEN) == ConditionCode::Two;
+    busy && state.parameter() == 0
+}
+
 #[test]
 fn a_word_is_modified(rt: HostRuntime) {
-    let mut state = subchannel([0, 0, 0]);
-    assert!(rt;
-        msch(&mut state, &GIVEN) == ConditionCode::Zero
-            && state.parameter() == 5
-            && state.subclass() == 7
-            && state.is_enabled()
-            && state.is_multipath()
-    );
-    assert!(rt;
-        state.logical().mask() == 0xC0
-            && state.operational().mask() == 0x81
-            && state.not_operational().mask() == 0xFF
-    );
-    let mut busy = subchannel([0x0000_2200, 0, 0]);
-    assert!(rt; msch(&mut busy, &GIVEN) == ConditionCode::Two && busy.parameter() == 0);
+    let modified = modifies(&mut subchannel([0, 0, 0]));
+    let kept = modifies_nothing(&mut subchannel([0x0000_2200, 0, 0]));
+    assert!(rt; modified && kept);
     law::modified();
     law::counts();
 }

@@ -43,17 +43,19 @@ fn is_halt_put(sent: &mut SentDown, path: Path) -> bool {
     )
 }
 
-#[test]
-fn a_slot_has_what_was_written_last(rt: HostRuntime) {
+/// Whether a slot is empty at first, has what was written last, and is empty once it is cleared.
+fn has_last(sent: &mut SentDown) -> bool {
     let path = Path::new(5).unwrap();
-    let mut sent = SentDown::new();
     let empty = sent.get().is_none();
-    let last = is_last_put(&mut sent, path);
-    let halted = is_halt_put(&mut sent, path);
+    let last = is_last_put(sent, path);
+    let halted = is_halt_put(sent, path);
     sent.clear();
     let cleared = sent.own().is_none();
-    drop(sent);
-    assert!(rt; empty);
-    assert!(rt; last, "the last Give, with its own bytes alone");
-    assert!(rt; halted && cleared);
+    empty && last && halted && cleared
+}
+
+#[test]
+fn a_slot_has_what_was_written_last(rt: HostRuntime) {
+    let last = has_last(&mut SentDown::new());
+    assert!(rt; last);
 }

@@ -6,7 +6,7 @@ use chan_model::lent::{PlainDown, PlainUp};
 use chan_model::names::Path;
 use chan_model::signal::{Down, Up};
 use functions::{PackedState, Subchannel};
-use std::alloc::{AllocError, Global};
+use std::alloc::Global;
 use subchannel::choosing::mark_lost_paths;
 use subchannel::losing::{go_down, lose_path, show_path};
 use subchannel::system_reset::reset_by_system;
@@ -40,12 +40,8 @@ fn waits(sub: &Subchannel, path: Path) -> bool {
 
 /// A subchannel in this state whose number 1 was drawn last, with two paths, 10 and 11 in hexadecimal, and signals on both. Its
 /// hold is in this phase, in single-path mode, and the first path of its program is 10.
-fn subchannel(
-    alloc: Global,
-    state: SubchannelState,
-    phase: HoldPhase,
-) -> Result<Subchannel, AllocError> {
-    let mut wires = Wires::new(alloc)?;
+fn subchannel(alloc: Global, state: SubchannelState, phase: HoldPhase) -> Option<Subchannel> {
+    let mut wires = Wires::new(alloc).ok()?;
     send(&mut wires, first_path());
     send(&mut wires, second_path());
     let state = SubchannelState {
@@ -57,7 +53,7 @@ fn subchannel(
         },
         ..state
     };
-    Ok(Subchannel {
+    Some(Subchannel {
         state: packed(state),
         wires,
     })
@@ -112,118 +108,143 @@ fn connected() -> HoldPhase {
     }
 }
 
-/// Whether a program in this state is over as its path is lost: these words of status and another status are made, and the signals
-/// on that path are lost, those on the other not.
+/// The state with the first command of a program at work.
+fn active(alloc: Global) -> SubchannelState {
+    SubchannelState {
+        begun: begun(alloc, 1, false),
+        ..state_of_words([0x0080_40C0, 0x1000, 0])
+    }
+}
+
+/// The state with a program whose primary status was shown and cleared.
+fn ended(alloc: Global) -> SubchannelState {
+    SubchannelState {
+        begun: begun(alloc, 3, true),
+        ..state_of_words([0x0080_0040, 0x1008, 0x0800_0004])
+    }
+}
+
+/// Whether the program is over as its path is lost: these words of status and another status are made, and the signals on that path
+/// are lost, those on the other not.
+fn ends_with_path(sub: &mut Subchannel, words: [u32; 3]) -> bool {
+    lose(sub, 0x10);
+    let shown = is_same_words(&sub.state, words);
+    let over = is_reset(sub, 9) && is_over(sub);
+    let emptied = !waits(sub, first_path()) && waits(sub, second_path());
+    shown && over && emptied
+}
+
+/// The same of a program in this state; None where there is no memory.
 fn is_over_with_path(
     alloc: Global,
     state: &SubchannelState,
     phase: HoldPhase,
     words: [u32; 3],
-) -> bool {
-    let Ok(mut sub) = subchannel(alloc, *state, phase) else {
-        return false;
-    };
-    lose(&mut sub, 0x10);
-    is_same_words(&sub.state, words)
-        && is_reset(&sub, 9)
-        && is_over(&sub)
-        && !waits(&sub, first_path())
-        && waits(&sub, second_path())
+) -> Option<bool> {
+    let mut sub = subchannel(alloc, *state, phase)?;
+    Some(ends_with_path(&mut sub, words))
 }
 
 #[test]
 fn a_program_is_over_as_its_path_is_lost(rt: HostRuntime) {
-    let start = waiting([0x0080_4400, 0x1000, 0]);
-    let active = SubchannelState {
-        begun: begun(rt.alloc(), 1, false),
-        ..state_of_words([0x0080_40C0, 0x1000, 0])
-    };
-    let ended = SubchannelState {
-        begun: begun(rt.alloc(), 3, true),
-        ..state_of_words([0x0080_0040, 0x1008, 0x0800_0004])
-    };
-    let checked = [0x0080_4017, 0x1008, 0x0002_0004];
-    let away = HoldPhase::Away { number: 1 };
-    let offered_words = [0x0080_4017, 0x1000, 0x0002_0000];
-    let ended_words = [0x0080_0013, 0x1008, 0x0002_0004];
-    let of_start = is_over_with_path(rt.alloc(), &start, offered(), offered_words);
-    let of_active = is_over_with_path(rt.alloc(), &active, connected(), checked);
-    let of_away = is_over_with_path(rt.alloc(), &active, away, checked);
-    let of_ended = is_over_with_path(rt.alloc(), &ended, connected(), ended_words);
-    assert!(rt; of_start, "offered");
-    assert!(rt; of_active, "connected");
-    assert!(rt; of_away, "away");
-    assert!(rt; of_ended, "ended");
+    assert!(rt; are_over_with_path(rt.alloc()) == Some(true));
 }
 
-/// Whether a start in this state waits on as the path is lost by which the hold was offered before it.
-fn waits_behind_path(alloc: Global, start: &SubchannelState, phase: HoldPhase) -> bool {
-    let Ok(mut sub) = subchannel(alloc, *start, phase) else {
-        return false;
-    };
+/// Whether a program is over that was offered, is connected, is away or has shown its primary status; None where there is no memory.
+fn are_over_with_path(alloc: Global) -> Option<bool> {
+    let start = waiting([0x0080_4400, 0x1000, 0]);
+    let active = active(alloc);
+    let ended = ended(alloc);
+    let checked = [0x0080_4017, 0x1008, 0x0002_0004];
+    let away = HoldPhase::Away { number: 1 };
+    let of_offered = is_over_with_path(
+        alloc,
+        &start,
+        offered(),
+        [0x0080_4017, 0x1000, 0x0002_0000],
+    )?;
+    let of_active = is_over_with_path(alloc, &active, connected(), checked)?;
+    let of_away = is_over_with_path(alloc, &active, away, checked)?;
+    let of_ended = is_over_with_path(
+        alloc,
+        &ended,
+        connected(),
+        [0x0080_0013, 0x1008, 0x0002_0004],
+    )?;
+    Some(of_offered && of_active && of_away && of_ended)
+}
+
+/// Whether a start waits on as the path is lost by which the hold was offered before it.
+fn waits_behind_path(sub: &mut Subchannel) -> bool {
     sub.state.rest_mut().hold.reset_path = Some(first_path());
-    lose(&mut sub, 0x10);
-    is_same_words(&sub.state, [0x0080_4400, 0x1000, 0])
-        && is_reset(&sub, 8)
-        && sub.state.rest().waiting.is_some()
+    lose(sub, 0x10);
+    let kept = is_same_words(&sub.state, [0x0080_4400, 0x1000, 0]);
+    let reset = is_reset(sub, 8);
+    kept && reset && sub.state.rest().waiting.is_some()
+}
+
+/// The same of a start whose hold is in this phase; None where there is no memory.
+fn is_start_kept(alloc: Global, phase: HoldPhase) -> Option<bool> {
+    let mut sub = subchannel(alloc, waiting([0x0080_4400, 0x1000, 0]), phase)?;
+    Some(waits_behind_path(&mut sub))
 }
 
 #[test]
 fn a_start_behind_a_lost_path_waits_on(rt: HostRuntime) {
-    let start = waiting([0x0080_4400, 0x1000, 0]);
     let letting = HoldPhase::Letting {
         number: 1,
         path: first_path(),
     };
-    for phase in [letting, HoldPhase::Reset { number: 1 }] {
-        let waits_on = waits_behind_path(rt.alloc(), &start, phase);
-        assert!(rt; waits_on);
-    }
+    let reset = HoldPhase::Reset { number: 1 };
+    let while_letting = is_start_kept(rt.alloc(), letting);
+    let while_reset = is_start_kept(rt.alloc(), reset);
+    assert!(rt; while_letting == Some(true) && while_reset == Some(true));
 }
 
 #[test]
-fn a_path_that_no_program_is_on_goes_down_and_up(rt: HostRuntime) -> Result<(), AllocError> {
-    let active = SubchannelState {
-        begun: begun(rt.alloc(), 1, false),
-        ..state_of_words([0x0080_40C0, 0x1000, 0])
-    };
-    let mut sub = subchannel(rt.alloc(), active, connected())?;
-    down(&mut sub, 0x11);
-    let kept = is_same_words(&sub.state, [0x0080_40C0, 0x1000, 0]);
-    let works = is_on(&sub) && !is_over(&sub);
-    let emptied = waits(&sub, first_path()) && !waits(&sub, second_path());
-    let gone = sub.state.available();
-    down(&mut sub, 0x12);
-    let passed_over = sub.state.rest().drawn == 1 && waits(&sub, first_path());
-    show_path(&mut sub, 0x12, true);
-    let still_gone = sub.state.available();
-    show_path(&mut sub, 0x11, true);
-    let back = sub.state.available();
-    let installed = sub.state.installed();
-    down(&mut sub, 0x10);
-    let over = is_reset(&sub, 9);
-    let other_gone = sub.state.available();
-    drop(sub);
-    assert!(rt; kept, "no status is shown");
-    assert!(rt; works, "the program works on");
-    assert!(rt; emptied, "the path that is down alone has no signal");
-    assert!(rt; gone.mask() == 0x80);
-    assert!(rt; passed_over, "the subchannel has no such path");
-    assert!(rt;
-        still_gone.mask() == 0x80
-            && back.mask() == 0xC0
-            && installed.mask() == 0xC0
-            && over
-            && other_gone.mask() == 0x40
-    );
-    Ok(())
+fn a_path_that_no_program_is_on_goes_down_and_up(rt: HostRuntime) {
+    assert!(rt; is_other_path_down_and_up(rt.alloc()) == Some(true));
 }
 
-/// The subchannel in this state, with its hold offered, whose first path is down.
-fn with_first_down(alloc: Global, state: SubchannelState) -> Result<Subchannel, AllocError> {
-    let mut sub = subchannel(alloc, state, offered())?;
-    show_path(&mut sub, 0x10, false);
-    Ok(sub)
+/// Whether a program works on while the other path goes down and up; None where there is no memory.
+fn is_other_path_down_and_up(alloc: Global) -> Option<bool> {
+    let active = active(alloc);
+    let mut sub = subchannel(alloc, active, connected())?;
+    Some(goes_down_and_up(&mut sub))
+}
+
+fn goes_down_and_up(sub: &mut Subchannel) -> bool {
+    let works_on = works_on_without_other(sub);
+    let passed_over = passes_over(sub);
+    let shown = shows_paths(sub);
+    down(sub, 0x10);
+    let over = is_reset(sub, 9);
+    works_on && passed_over && shown && over && sub.state.available().mask() == 0x40
+}
+
+/// Whether the program works on and shows no status as the other path goes down, which alone has no signal then.
+fn works_on_without_other(sub: &mut Subchannel) -> bool {
+    down(sub, 0x11);
+    let kept = is_same_words(&sub.state, [0x0080_40C0, 0x1000, 0]);
+    let works = is_on(sub) && !is_over(sub);
+    let emptied = waits(sub, first_path()) && !waits(sub, second_path());
+    kept && works && emptied && sub.state.available().mask() == 0x80
+}
+
+/// Whether a path that the subchannel does not have is passed over.
+fn passes_over(sub: &mut Subchannel) -> bool {
+    down(sub, 0x12);
+    sub.state.rest().drawn == 1 && waits(sub, first_path())
+}
+
+/// Whether the other path is up once it is shown to be, and not where a path is that the subchannel does not have.
+fn shows_paths(sub: &mut Subchannel) -> bool {
+    show_path(sub, 0x12, true);
+    let still_gone = sub.state.available();
+    show_path(sub, 0x11, true);
+    let back = sub.state.available();
+    let installed = sub.state.installed();
+    still_gone.mask() == 0x80 && back.mask() == 0xC0 && installed.mask() == 0xC0
 }
 
 /// What changes of the path-management-control word of a subchannel.
@@ -249,74 +270,101 @@ struct MarkedWords {
     pmcw: PmcwState,
 }
 
-/// The words of the subchannel once its lost paths are marked at this choice.
-fn marked(sub: Subchannel, choice: &Option<Path>) -> MarkedWords {
-    let mut sub = sub;
-    mark_lost_paths(&mut sub, choice);
+/// The words of the subchannel in this state once its first path is down and its lost paths are marked at this choice; None where
+/// there is no memory.
+fn marked(alloc: Global, state: SubchannelState, choice: &Option<Path>) -> Option<MarkedWords> {
+    let mut sub = subchannel(alloc, state, offered())?;
+    Some(mark(&mut sub, choice))
+}
+
+fn mark(sub: &mut Subchannel, choice: &Option<Path>) -> MarkedWords {
+    show_path(sub, 0x10, false);
+    mark_lost_paths(sub, choice);
     MarkedWords {
         scsw: *sub.state.scsw_words(),
         pmcw: pmcw_of(&sub.state),
     }
 }
 
-#[test]
-fn a_path_that_is_down_is_found_once(rt: HostRuntime) -> Result<(), AllocError> {
-    let halted = with_first_down(rt.alloc(), waiting([0x0080_6600, 0x1000, 0]))?;
-    let halted = marked(halted, &None);
-    assert!(rt; halted.scsw == [0x0080_6600, 0x1000, 0] && halted.pmcw.operational.mask() == 0xFF);
-    for choice in [None, Some(second_path())] {
-        let start = with_first_down(rt.alloc(), waiting([0x0080_4400, 0x1000, 0]))?;
-        let found = marked(start, &choice);
-        assert!(rt;
-            found.scsw == [0x0081_4400, 0x1000, 0]
-                && found.pmcw.operational.mask() == 0x7F
-                && found.pmcw.not_operational.mask() == 0x80
-        );
-        let again = SubchannelState {
-            pmcw: found.pmcw,
-            ..waiting([0x0080_4400, 0x1000, 0])
-        };
-        let known = marked(subchannel(rt.alloc(), again, offered())?, &choice);
-        assert!(rt; known.scsw == [0x0080_4400, 0x1000, 0]);
-    }
-    Ok(())
+/// Whether a start that finds no first path finds it once, at this choice; None where there is no memory.
+fn is_found_once(alloc: Global, choice: Option<Path>) -> Option<bool> {
+    let start = waiting([0x0080_4400, 0x1000, 0]);
+    let found = marked(alloc, start, &choice)?;
+    let again = SubchannelState {
+        pmcw: found.pmcw,
+        ..start
+    };
+    let known = marked(alloc, again, &choice)?;
+    Some(
+        found.scsw == [0x0081_4400, 0x1000, 0]
+            && found.pmcw.operational.mask() == 0x7F
+            && found.pmcw.not_operational.mask() == 0x80
+            && known.scsw == [0x0080_4400, 0x1000, 0],
+    )
+}
+
+/// Whether a subchannel that is to be halted finds no path; None where there is no memory.
+fn is_none_found(alloc: Global) -> Option<bool> {
+    let halted = marked(alloc, waiting([0x0080_6600, 0x1000, 0]), &None)?;
+    Some(halted.scsw == [0x0080_6600, 0x1000, 0] && halted.pmcw.operational.mask() == 0xFF)
 }
 
 #[test]
-fn a_reset_of_the_subsystem_keeps_what_is_up(rt: HostRuntime) -> Result<(), AllocError> {
-    let mut active = SubchannelState {
-        begun: begun(rt.alloc(), 1, false),
+fn a_path_that_is_down_is_found_once(rt: HostRuntime) {
+    let halted = is_none_found(rt.alloc());
+    let unchosen = is_found_once(rt.alloc(), None);
+    let chosen = is_found_once(rt.alloc(), Some(second_path()));
+    assert!(rt; halted == Some(true) && unchosen == Some(true) && chosen == Some(true));
+}
+
+#[test]
+fn a_reset_of_the_subsystem_keeps_what_is_up(rt: HostRuntime) {
+    assert!(rt; is_reset_by_system(rt.alloc()) == Some(true));
+}
+
+/// The state with a program at work by a path that is dedicated, and with status that is not cleared.
+fn dedicated(alloc: Global) -> SubchannelState {
+    let mut state = SubchannelState {
         last_path: Some(first_path()),
         dedicated: Some(first_path()),
+        begun: begun(alloc, 1, false),
         ..state_of_words([0x0080_40C9, 0x1000, 0x0080_0004])
     };
-    active.serials.made = 9;
-    active.pmcw.parameter = 7;
-    active.pmcw.multipath = true;
-    let mut sub = subchannel(rt.alloc(), active, connected())?;
-    show_path(&mut sub, 0x11, false);
+    state.serials.made = 9;
+    state.pmcw.parameter = 7;
+    state.pmcw.multipath = true;
+    state
+}
+
+/// Whether such a subchannel is reset by a reset of the subsystem; None where there is no memory.
+fn is_reset_by_system(alloc: Global) -> Option<bool> {
+    let state = dedicated(alloc);
+    let mut sub = subchannel(alloc, state, connected())?;
+    Some(resets(&mut sub))
+}
+
+fn resets(sub: &mut Subchannel) -> bool {
+    show_path(sub, 0x11, false);
     if sub.state.rest().drawn < 9 {
-        reset_by_system(&mut sub);
+        reset_by_system(sub);
     }
-    let kept = is_same_words(&sub.state, [0x0080_0000, 0x1000, 0x0080_0004]);
-    let rest = *sub.state.rest();
-    let over = is_reset(&sub, 9) && is_over(&sub);
-    let word = *sub.state.pmcw();
-    let waiting_on_both = waits(&sub, first_path()) && waits(&sub, second_path());
-    drop(sub);
-    assert!(rt;
-        kept && over
-            && rest.serials.cleared == 9
-            && !word.is_enabled()
-            && word.parameter() == 0
-            && !word.is_multipath()
-    );
-    assert!(rt;
-        word.available() == 0x80
-            && rest.starts == 2
-            && rest.last_path.is_some()
-            && rest.dedicated.is_none()
-    );
-    assert!(rt; waiting_on_both, "the signals are kept");
-    Ok(())
+    let over = is_reset(sub, 9) && is_over(sub);
+    let signals_kept = waits(sub, first_path()) && waits(sub, second_path());
+    over && signals_kept && is_initialized(&sub.state)
+}
+
+/// Whether the words and the status are those of a reset, and the path that is up and the last path are kept.
+fn is_initialized(state: &PackedState) -> bool {
+    let cleared = is_same_words(state, [0x0080_0000, 0x1000, 0x0080_0004]);
+    let word = *state.pmcw();
+    let rest = state.rest();
+    cleared
+        && rest.serials.cleared == 9
+        && !word.is_enabled()
+        && word.parameter() == 0
+        && !word.is_multipath()
+        && word.available() == 0x80
+        && rest.starts == 2
+        && rest.last_path.is_some()
+        && rest.dedicated.is_none()
 }

@@ -132,8 +132,9 @@ fn are_not_now(world: &mut World, events: &[WorldEvent]) -> bool {
 
 /// Whether a signal arrives at the unit, and is taken without an answer.
 fn is_taken_down(world: &mut World, event: &WorldEvent) -> bool {
+    let reply = world.step(event);
     matches!(
-        world.step(event),
+        &reply,
         Ok(WorldReply::Down {
             taken: true,
             sent: None,
@@ -144,8 +145,9 @@ fn is_taken_down(world: &mut World, event: &WorldEvent) -> bool {
 
 /// Whether a signal arrives at the unit, and is ignored.
 fn is_ignored_down(world: &mut World, event: &WorldEvent) -> bool {
+    let reply = world.step(event);
     matches!(
-        world.step(event),
+        &reply,
         Ok(WorldReply::Down {
             taken: false,
             sent: None,
@@ -156,8 +158,9 @@ fn is_ignored_down(world: &mut World, event: &WorldEvent) -> bool {
 
 /// Whether a signal arrives at the hold, and is taken without an answer.
 fn is_taken_up(world: &mut World, event: &WorldEvent) -> bool {
+    let reply = world.step(event);
     matches!(
-        world.step(event),
+        &reply,
         Ok(WorldReply::Up {
             taken: true,
             sent: None,
@@ -168,8 +171,9 @@ fn is_taken_up(world: &mut World, event: &WorldEvent) -> bool {
 
 /// Whether a signal arrives at the hold, and is ignored.
 fn is_ignored_up(world: &mut World, event: &WorldEvent) -> bool {
+    let reply = world.step(event);
     matches!(
-        world.step(event),
+        &reply,
         Ok(WorldReply::Up {
             taken: false,
             sent: None,
@@ -188,38 +192,36 @@ fn sent_up(world: &mut World, event: &WorldEvent) -> Option<OnPath<Up>> {
 
 /// The chunk that a Data of the first connection is of, and how many bytes it brings or absorbed, where it goes by this path.
 fn data_on(sent: &Option<OnPath<Up>>, path: usize) -> Option<(u64, usize)> {
-    let Some(sent) = sent else {
-        return None;
-    };
-    if sent.path.index() != path {
-        return None;
-    }
-    match &sent.signal {
-        Up::Data {
-            number: 1,
-            connection: 0,
-            command: 1,
-            sequence,
-            load,
-        } => Some((*sequence, load.len())),
+    match sent {
+        Some(
+            OnPath {
+                path: by,
+                signal: Up::Data {
+                    number: 1,
+                    connection: 0,
+                    command: 1,
+                    sequence,
+                    load,
+                },
+            },
+        ) if by.index() == path => Some((*sequence, load.len())),
         _ => None,
     }
 }
 
 /// Whether channel end and device end of the first command go by this path.
 fn is_end_on(sent: &Option<OnPath<Up>>, path: usize) -> bool {
-    let Some(sent) = sent else {
-        return false;
-    };
-    let is_end = matches!(
-        sent.signal,
-        Up::End {
-            number: 1,
-            command: 1,
-            ..
-        }
-    );
-    is_end && sent.path.index() == path
+    matches!(
+        sent,
+        Some(OnPath {
+            path: by,
+            signal: Up::End {
+                number: 1,
+                command: 1,
+                ..
+            },
+        }) if by.index() == path
+    )
 }
 
 /// Whether a program is offered and accepted on this path, and this command sent to it, which the unit takes.
@@ -254,22 +256,30 @@ fn takes_give_once(world: &mut World) -> bool {
     sent && taken && is_ignored_down(world, &down(0, false))
 }
 
+/// Whether a write absorbs two bytes on path 2, and no more.
+fn writes(world: &mut World) -> bool {
+    let begun = begins(world, 2, command(1, 0));
+    let once = takes_command_once(world);
+    let asked = data_on(&sent_up(world, &report(0, DeviceAnswer::Begins)), 2);
+    let heard = is_taken_up(world, &up(0, false));
+    let given = takes_give_once(world);
+    let absorbed = data_on(&sent_up(world, &report(1, DeviceAnswer::Absorbed(2))), 2);
+    let last_sent = accepts(world, &[send(2, give(0, 2, Chunk::new()))]);
+    let stopped = is_taken_down(world, &down(0, false));
+    begun
+        && once
+        && asked == Some((0, 0))
+        && heard
+        && given
+        && absorbed == Some((1, 2))
+        && last_sent
+        && stopped
+}
+
 #[test]
 fn a_write_is_sent_and_ended(rt: HostRuntime) {
-    let mut world = World::new(rt.alloc());
-    let begun = begins(&mut world, 2, command(1, 0));
-    let once = takes_command_once(&mut world);
-    let asked = sent_up(&mut world, &report(0, DeviceAnswer::Begins));
-    let asked = data_on(&asked, 2);
-    let heard = is_taken_up(&mut world, &up(0, false));
-    let given = takes_give_once(&mut world);
-    let absorbed = sent_up(&mut world, &report(1, DeviceAnswer::Absorbed(2)));
-    let absorbed = data_on(&absorbed, 2);
-    let stopped = accepts(&mut world, &[send(2, give(0, 2, Chunk::new()))]);
-    let stopped = stopped && is_taken_down(&mut world, &down(0, false));
-    drop(world);
-    assert!(rt; begun && once && heard && given && stopped);
-    assert!(rt; asked == Some((0, 0)) && absorbed == Some((1, 2)));
+    let written = writes(&mut World::new(rt.alloc()));
+    assert!(rt; written);
 }
 
 /// Whether the unit is halted, though its Halt arrives twice.
@@ -279,28 +289,43 @@ fn halts_once(world: &mut World) -> bool {
     sent && taken && is_ignored_down(world, &down(0, false))
 }
 
+/// Whether the device begins the first command, and nothing is sent.
+fn is_quiet(world: &mut World) -> bool {
+    let begun = world.step(&report(0, DeviceAnswer::Begins));
+    matches!(&begun, Ok(WorldReply::Done))
+}
+
+/// The first chunk of a read that has these bytes, and how many it brings, where it goes by this path.
+fn supplied(world: &mut World, bytes: Chunk, path: usize) -> Option<(u64, usize)> {
+    let supplied = report(0, DeviceAnswer::Supplied(bytes));
+    data_on(&sent_up(world, &supplied), path)
+}
+
+/// Whether the first chunk of a read is answered once on path 5, though the answer arrives twice.
+fn answers_once(world: &mut World) -> bool {
+    let heard = is_taken_up(world, &up(0, false));
+    let answered = accepts(world, &[send(5, took(1, 1))]);
+    let taken = is_taken_down(world, &down(0, true));
+    let once = is_ignored_down(world, &down(0, false));
+    heard && answered && taken && once
+}
+
+/// Whether a read on path 5 is halted once it has brought three bytes, and ends.
+fn reads_and_halts(world: &mut World) -> bool {
+    let begun = begins(world, 5, command(2, 4));
+    let quiet = is_quiet(world);
+    let brought = supplied(world, Chunk::of(&[1, 2, 3]), 5);
+    let answered = answers_once(world);
+    let halted = halts_once(world);
+    let end = is_end_on(&sent_up(world, &report(1, ended())), 5);
+    let over = is_taken_up(world, &up(0, false));
+    begun && quiet && brought == Some((1, 3)) && answered && halted && end && over
+}
+
 #[test]
 fn a_read_is_halted(rt: HostRuntime) {
-    let mut world = World::new(rt.alloc());
-    let begun = begins(&mut world, 5, command(2, 4));
-    let quiet = matches!(
-        world.step(&report(0, DeviceAnswer::Begins)),
-        Ok(WorldReply::Done)
-    );
-    let bytes = DeviceAnswer::Supplied(Chunk::of(&[1, 2, 3]));
-    let supplied = sent_up(&mut world, &report(0, bytes));
-    let supplied = data_on(&supplied, 5);
-    let heard = is_taken_up(&mut world, &up(0, false));
-    let answered = accepts(&mut world, &[send(5, took(1, 1))]);
-    let taken = is_taken_down(&mut world, &down(0, true));
-    let once = is_ignored_down(&mut world, &down(0, false));
-    let halted = halts_once(&mut world);
-    let end = sent_up(&mut world, &report(1, ended()));
-    let end = is_end_on(&end, 5);
-    let over = is_taken_up(&mut world, &up(0, false));
-    drop(world);
-    assert!(rt; begun && quiet && heard && answered && taken && once);
-    assert!(rt; supplied == Some((1, 3)) && halted && end && over);
+    let halted = reads_and_halts(&mut World::new(rt.alloc()));
+    assert!(rt; halted);
 }
 
 /// Whether the unit leaves its path and is connected on another, while this many older signals wait.
@@ -317,44 +342,52 @@ fn comes_back(world: &mut World, path: u8, waiting: usize) -> bool {
     )
 }
 
-#[test]
-fn a_data_of_an_older_connection_is_ignored(rt: HostRuntime) {
-    let mut world = World::new(rt.alloc());
-    let begun = begins(&mut world, 1, command(1, 0));
-    let asked = sent_up(&mut world, &report(0, DeviceAnswer::Begins));
-    let asked = data_on(&asked, 1);
-    let back = comes_back(&mut world, 6, 1);
-    let ignored = is_ignored_up(&mut world, &up(0, true));
-    let lost = accepts(&mut world, &[lose_up()]);
-    let old_give = are_not_now(
-        &mut world,
-        &[
-            send(1, give(0, 1, Chunk::of(&[7]))),
-            send(6, give(0, 1, Chunk::of(&[7]))),
-        ],
-    );
-    let new_give = accepts(&mut world, &[send(6, give(1, 1, Chunk::of(&[7])))]);
-    let taken = is_taken_down(&mut world, &down(0, false));
-    drop(world);
-    assert!(rt; begun && asked == Some((0, 0)) && back && ignored && lost);
-    assert!(rt; old_give && new_give && taken);
+/// Whether a Give is refused of the older connection, and one of the newer is taken, on path 6.
+fn gives_by_newer(world: &mut World) -> bool {
+    let old = [
+        send(1, give(0, 1, Chunk::of(&[7]))),
+        send(6, give(0, 1, Chunk::of(&[7]))),
+    ];
+    let old_refused = are_not_now(world, &old);
+    let new_sent = accepts(world, &[send(6, give(1, 1, Chunk::of(&[7])))]);
+    let taken = is_taken_down(world, &down(0, false));
+    old_refused && new_sent && taken
 }
 
-/// An End brings no connection: where it is overtaken, it is taken on whatever path its program is.
+/// Whether a Data is ignored of the connection before the program came back.
+fn ignores_older(world: &mut World) -> bool {
+    let begun = begins(world, 1, command(1, 0));
+    let asked = data_on(&sent_up(world, &report(0, DeviceAnswer::Begins)), 1);
+    let back = comes_back(world, 6, 1);
+    let ignored = is_ignored_up(world, &up(0, true));
+    let lost = accepts(world, &[lose_up()]);
+    let given = gives_by_newer(world);
+    begun && asked == Some((0, 0)) && back && ignored && lost && given
+}
+
 #[test]
-fn an_end_that_is_overtaken_is_taken(rt: HostRuntime) {
-    let mut world = World::new(rt.alloc());
-    let begun = begins(&mut world, 1, command(2, 4));
+fn a_data_of_an_older_connection_is_ignored(rt: HostRuntime) {
+    let ignored = ignores_older(&mut World::new(rt.alloc()));
+    assert!(rt; ignored);
+}
+
+/// Whether an End is taken that was overtaken: it brings no connection, and is taken on whatever path its program is.
+fn takes_overtaken(world: &mut World) -> bool {
+    let begun = begins(world, 1, command(2, 4));
     let checked = DeviceAnswer::Ended {
         status: DeviceStatus::of_bits(0x02),
         more: false,
     };
-    let end = sent_up(&mut world, &report(0, checked));
-    let end = is_end_on(&end, 1);
-    let back = comes_back(&mut world, 6, 1);
-    let taken = is_taken_up(&mut world, &up(0, false));
-    drop(world);
-    assert!(rt; begun && end && back && taken);
+    let end = is_end_on(&sent_up(world, &report(0, checked)), 1);
+    let back = comes_back(world, 6, 1);
+    let taken = is_taken_up(world, &up(0, false));
+    begun && end && back && taken
+}
+
+#[test]
+fn an_end_that_is_overtaken_is_taken(rt: HostRuntime) {
+    let taken = takes_overtaken(&mut World::new(rt.alloc()));
+    assert!(rt; taken);
 }
 
 /// Whether signals that are not its program's, or go by another path, are refused.
@@ -371,20 +404,35 @@ fn refuses_to_send(world: &mut World) -> bool {
     are_not_now(world, &events)
 }
 
+/// Whether a command is refused where there is no program, or no such path.
+fn refuses_without_program(world: &mut World) -> bool {
+    let idle = are_not_now(world, &[send(2, command(1, 0))]);
+    let beyond = world.step(&send(8, command(1, 0)));
+    idle && matches!(&beyond, Err(Fault::NoSuchPath))
+}
+
+/// Whether a program that left its path is sent no command, and may be halted.
+fn halts_away(world: &mut World) -> bool {
+    let left = accepts(world, &[WorldEvent::Leave, up(0, false)]);
+    let away = are_not_now(world, &[send(2, command(1, 0))]);
+    let halted = accepts(world, &[send(7, Down::Halt { number: 1 })]);
+    let taken = is_taken_down(world, &down(0, false));
+    left && away && halted && taken
+}
+
+/// Whether a side sends nothing but what is its program's.
+fn sends_for_program(world: &mut World) -> bool {
+    let none = refuses_without_program(world);
+    let begun = begins(world, 2, command(1, 0));
+    let refused = refuses_to_send(world);
+    let away = halts_away(world);
+    none && begun && refused && away
+}
+
 #[test]
 fn a_side_sends_for_its_program_alone(rt: HostRuntime) {
-    let mut world = World::new(rt.alloc());
-    let idle = are_not_now(&mut world, &[send(2, command(1, 0))]);
-    let no_path = matches!(world.step(&send(8, command(1, 0))), Err(Fault::NoSuchPath));
-    let begun = begins(&mut world, 2, command(1, 0));
-    let refused = refuses_to_send(&mut world);
-    let left = accepts(&mut world, &[WorldEvent::Leave, up(0, false)]);
-    let away = are_not_now(&mut world, &[send(2, command(1, 0))]);
-    let halted = accepts(&mut world, &[send(7, Down::Halt { number: 1 })]);
-    let taken = is_taken_down(&mut world, &down(0, false));
-    drop(world);
-    assert!(rt; idle && no_path && begun && refused && left && away);
-    assert!(rt; halted && taken);
+    let sent = sends_for_program(&mut World::new(rt.alloc()));
+    assert!(rt; sent);
 }
 
 /// Whether a signal on path 3 vanishes, and is taken once when it is sent again, though it arrives twice.
@@ -413,27 +461,36 @@ fn is_offered(world: &mut World) -> bool {
     accepts(world, &[choose, down(0, false), up(0, false)])
 }
 
+/// Whether a read brings four bytes on path 3, though its signals vanish and repeat.
+fn reads_though_lost(world: &mut World) -> bool {
+    let offered = is_offered(world);
+    let command_taken = is_taken_though_lost(world, &command(2, 4));
+    let quiet = is_quiet(world);
+    let brought = supplied(world, Chunk::of(&[1, 2, 3, 4]), 3);
+    let data_heard = is_heard_once(world);
+    let took_taken = is_taken_though_lost(world, &took(1, 0));
+    offered && command_taken && quiet && brought == Some((1, 4)) && data_heard && took_taken
+}
+
+/// Whether the read is halted and ends all the same, and no signal is left.
+fn ends_though_lost(world: &mut World) -> bool {
+    let halt_taken = is_taken_though_lost(world, &Down::Halt { number: 1 });
+    let end = is_end_on(&sent_up(world, &report(1, ended())), 3);
+    let end_heard = is_heard_once(world);
+    let downs = world.downs_len(SIDE);
+    let ups = world.ups_len(SIDE);
+    halt_taken && end && end_heard && downs == 0 && ups == 0
+}
+
+/// Whether both are so, one after the other.
+fn carries_read_out(world: &mut World) -> bool {
+    let read = reads_though_lost(world);
+    let ended = ends_though_lost(world);
+    read && ended
+}
+
 #[test]
 fn signals_of_a_program_vanish_and_repeat(rt: HostRuntime) {
-    let mut world = World::new(rt.alloc());
-    let offered = is_offered(&mut world);
-    let command_taken = is_taken_though_lost(&mut world, &command(2, 4));
-    let quiet = matches!(
-        world.step(&report(0, DeviceAnswer::Begins)),
-        Ok(WorldReply::Done)
-    );
-    let bytes = DeviceAnswer::Supplied(Chunk::of(&[1, 2, 3, 4]));
-    let supplied = sent_up(&mut world, &report(0, bytes));
-    let supplied = data_on(&supplied, 3);
-    let data_heard = is_heard_once(&mut world);
-    let took_taken = is_taken_though_lost(&mut world, &took(1, 0));
-    let halt_taken = is_taken_though_lost(&mut world, &Down::Halt { number: 1 });
-    let end = sent_up(&mut world, &report(1, ended()));
-    let end = is_end_on(&end, 3);
-    let end_heard = is_heard_once(&mut world);
-    let left = (world.downs_len(SIDE), world.ups_len(SIDE));
-    drop(world);
-    assert!(rt; offered && command_taken && quiet && supplied == Some((1, 4)));
-    assert!(rt; data_heard && took_taken && halt_taken && end && end_heard);
-    assert!(rt; left.0 == 0 && left.1 == 0);
+    let carried_out = carries_read_out(&mut World::new(rt.alloc()));
+    assert!(rt; carried_out);
 }

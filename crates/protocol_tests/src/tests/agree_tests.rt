@@ -99,23 +99,23 @@ fn offers(world: &mut World, side: Side, path: u8) -> bool {
     accepts(world, &[choose(side, path), down(side), up(side)])
 }
 
+/// Whether a program is accepted on path 2, and let go with no signal left.
+fn accepts_and_lets_go(world: &mut World) -> bool {
+    let side = Side::First;
+    let offered = offers(world, side, 2);
+    let held = is_held_by(world, side, 2, 0);
+    let owned = owned_by(world);
+    let released = accepts(world, &[WorldEvent::LetGo { side }, down(side), up(side)]);
+    let let_go = is_let_go(world, side);
+    let accepted = is_first_accepted(world, side);
+    let left = waiting(world, side);
+    offered && held && owned == Some(2) && released && let_go && accepted && left == (0, 0)
+}
+
 #[test]
 fn a_program_is_accepted_and_let_go(rt: HostRuntime) {
-    let side = Side::First;
-    let mut world = World::new(rt.alloc());
-    let offered = offers(&mut world, side, 2);
-    let held = is_held_by(&world, side, 2, 0);
-    let owned = owned_by(&world);
-    let released = accepts(
-        &mut world,
-        &[WorldEvent::LetGo { side }, down(side), up(side)],
-    );
-    let let_go = is_let_go(&world, side);
-    let accepted = is_first_accepted(&world, side);
-    let (downs, ups) = waiting(&world, side);
-    drop(world);
-    assert!(rt; offered && held && owned == Some(2) && released);
-    assert!(rt; let_go && accepted && downs == 0 && ups == 0);
+    let let_go = accepts_and_lets_go(&mut World::new(rt.alloc()));
+    assert!(rt; let_go);
 }
 
 /// Whether a program is offered whose Select arrives twice and is kept.
@@ -138,19 +138,22 @@ fn loses_both(world: &mut World, side: Side) -> bool {
     accepts(world, &lost)
 }
 
+/// Whether a program whose Select is repeated is accepted once, and is still offered where the answer to it vanishes.
+fn accepts_once(world: &mut World) -> bool {
+    let side = Side::First;
+    let repeated = repeats_select(world, side);
+    let accepted = is_first_accepted(world, side);
+    let kept = waiting(world, side);
+    let lost = loses_both(world, side);
+    let left = waiting(world, side);
+    let offered = matches!(world.hold(side).phase, HoldPhase::Offer { number: 1, .. });
+    repeated && accepted && kept == (1, 1) && lost && left == (0, 0) && offered
+}
+
 #[test]
 fn a_repeated_select_is_accepted_once(rt: HostRuntime) {
-    let side = Side::First;
-    let mut world = World::new(rt.alloc());
-    let repeated = repeats_select(&mut world, side);
-    let accepted = is_first_accepted(&world, side);
-    let (downs, ups) = waiting(&world, side);
-    let lost = loses_both(&mut world, side);
-    let (downs_left, ups_left) = waiting(&world, side);
-    let offered = matches!(world.hold(side).phase, HoldPhase::Offer { number: 1, .. });
-    drop(world);
-    assert!(rt; repeated && accepted && downs == 1 && ups == 1);
-    assert!(rt; lost && downs_left == 0 && ups_left == 0 && offered);
+    let once = accepts_once(&mut World::new(rt.alloc()));
+    assert!(rt; once);
 }
 
 /// How many requests for room an event makes: it is refused each in turn, and then accepted. A list keeps the room that it was
@@ -173,33 +176,40 @@ fn requests_of(world: &mut World, event: &WorldEvent) -> Option<u64> {
     None
 }
 
+/// Whether an offer makes one request, its acceptance two, and the answer to it none.
+fn makes_few_requests(world: &mut World) -> bool {
+    let side = Side::First;
+    let offer = requests_of(world, &choose(side, 2));
+    let accept = requests_of(world, &down(side));
+    let heard = requests_of(world, &up(side));
+    let held = is_held_by(world, side, 2, 0);
+    offer == Some(1) && accept == Some(2) && heard == Some(0) && held
+}
+
 #[test]
 fn each_request_of_an_event_is_refused_in_turn(rt: HostRuntime) {
+    let few = makes_few_requests(&mut World::new(rt.alloc()));
+    assert!(rt; few);
+}
+
+/// Whether a program leaves path 1 and comes back on path 6, which the unit knows once it is granted.
+fn comes_back(world: &mut World) -> bool {
     let side = Side::First;
-    let mut world = World::new(rt.alloc());
-    let offer = requests_of(&mut world, &choose(side, 2));
-    let accept = requests_of(&mut world, &down(side));
-    let heard = requests_of(&mut world, &up(side));
-    let held = is_held_by(&world, side, 2, 0);
-    drop(world);
-    assert!(rt; offer == Some(1) && accept == Some(2) && heard == Some(0) && held);
+    let offered = offers(world, side, 1);
+    let left = accepts(world, &[WorldEvent::Leave, up(side)]);
+    let away = matches!(world.hold(side).phase, HoldPhase::Away { number: 1 });
+    let asked = accepts(world, &[WorldEvent::Ask { path: 6 }, up(side)]);
+    let held = is_held_by(world, side, 6, 1);
+    let owned_before = owned_by(world);
+    let granted = accepts(world, &[down(side)]);
+    let owned = owned_by(world);
+    offered && left && away && asked && held && owned_before == None && granted && owned == Some(6)
 }
 
 #[test]
 fn a_program_comes_back_on_another_path(rt: HostRuntime) {
-    let side = Side::First;
-    let mut world = World::new(rt.alloc());
-    let offered = offers(&mut world, side, 1);
-    let left = accepts(&mut world, &[WorldEvent::Leave, up(side)]);
-    let away = matches!(world.hold(side).phase, HoldPhase::Away { number: 1 });
-    let asked = accepts(&mut world, &[WorldEvent::Ask { path: 6 }, up(side)]);
-    let held = is_held_by(&world, side, 6, 1);
-    let owned_before = owned_by(&world);
-    let granted = accepts(&mut world, &[down(side)]);
-    let owned = owned_by(&world);
-    drop(world);
-    assert!(rt; offered && left && away && asked);
-    assert!(rt; held && owned_before == None && granted && owned == Some(6));
+    let back = comes_back(&mut World::new(rt.alloc()));
+    assert!(rt; back);
 }
 
 /// Whether the unit is restarted, and a side is told so by this path.
@@ -212,20 +222,23 @@ fn restarts(world: &mut World, side: Side, path: u8) -> bool {
     accepts(world, &told)
 }
 
+/// Whether a Reset is due from when a side is told of a restart until it is answered.
+fn resets_after_restart(world: &mut World) -> bool {
+    let side = Side::First;
+    let offered = offers(world, side, 3);
+    let told = restarts(world, side, 3);
+    let due = reset_number(world, side);
+    let sent = accepts(world, &[choose(side, 3), down(side)]);
+    let still_due = reset_number(world, side);
+    let answered = accepts(world, &[up(side)]);
+    let let_go = is_let_go(world, side);
+    offered && told && due == Some(2) && sent && still_due == Some(2) && answered && let_go
+}
+
 #[test]
 fn a_restart_ends_by_a_reset(rt: HostRuntime) {
-    let side = Side::First;
-    let mut world = World::new(rt.alloc());
-    let offered = offers(&mut world, side, 3);
-    let told = restarts(&mut world, side, 3);
-    let due = reset_number(&world, side);
-    let sent = accepts(&mut world, &[choose(side, 3), down(side)]);
-    let still_due = reset_number(&world, side);
-    let answered = accepts(&mut world, &[up(side)]);
-    let let_go = is_let_go(&world, side);
-    drop(world);
-    assert!(rt; offered && told && due == Some(2) && sent);
-    assert!(rt; still_due == Some(2) && answered && let_go);
+    let reset = resets_after_restart(&mut World::new(rt.alloc()));
+    assert!(rt; reset);
 }
 
 /// Whether a side clears its program, and its Reset is sent on this path and taken.
@@ -234,24 +247,30 @@ fn clears(world: &mut World, side: Side, path: u8) -> bool {
     accepts(world, &[clear, choose(side, path), down(side)])
 }
 
+/// Whether a side whose program is held has it still, though the other offers one and clears it.
+fn holds_beside_other(world: &mut World) -> bool {
+    let offered = offers(world, Side::First, 0);
+    let refused = is_refused_other(world);
+    let cleared = clears(world, Side::Second, 7);
+    let due = reset_number(world, Side::Second);
+    let owned = owned_by(world);
+    let answered = accepts(world, &[up(Side::Second)]);
+    let free = is_free(world, Side::Second);
+    let held = is_held_by(world, Side::First, 0, 0);
+    offered && refused && cleared && due == Some(2) && owned == Some(0) && answered && free && held
+}
+
+/// Whether the second side offers a program that is not accepted.
+fn is_refused_other(world: &mut World) -> bool {
+    let offered = offers(world, Side::Second, 0);
+    let refused = is_free(world, Side::Second);
+    offered && refused && world.accepted(Side::Second).is_empty()
+}
+
 #[test]
 fn one_side_at_a_time_holds_the_device(rt: HostRuntime) {
-    let (first, second) = (Side::First, Side::Second);
-    let mut world = World::new(rt.alloc());
-    let offered = offers(&mut world, first, 0);
-    let offered_too = offers(&mut world, second, 0);
-    let refused = is_free(&world, second);
-    let none_accepted = world.accepted(second).is_empty();
-    let cleared = clears(&mut world, second, 7);
-    let due = reset_number(&world, second);
-    let owned = owned_by(&world);
-    let answered = accepts(&mut world, &[up(second)]);
-    let free = is_free(&world, second);
-    let held = is_held_by(&world, first, 0, 0);
-    drop(world);
-    assert!(rt; offered && offered_too && refused && none_accepted);
-    assert!(rt; cleared && due == Some(2) && owned == Some(0));
-    assert!(rt; answered && free && held);
+    let held = holds_beside_other(&mut World::new(rt.alloc()));
+    assert!(rt; held);
 }
 
 /// Whether a program is chosen on a path that goes down then: its Select vanishes, and a Reset is due in its stead.
@@ -280,37 +299,44 @@ fn is_lost_with_reset(world: &mut World, side: Side, path: u8) -> bool {
     lost && world.downs_len(side) == 0 && reset_number(world, side) == Some(3)
 }
 
+/// Whether path 4 of the second side takes a Select and then a Reset with it, and a reset of the subsystem makes one due for each side.
+fn loses_signals(world: &mut World) -> bool {
+    let side = Side::Second;
+    let select_lost = is_lost_with_path(world, side, 4);
+    let nothing_sent = sends_nothing(world, side, 4);
+    let sent = sends_when_up(world, side, 4);
+    let reset_lost = is_lost_with_reset(world, side, 4);
+    let reset = accepts(world, &[WorldEvent::SubsystemReset]);
+    let first_due = reset_number(world, Side::First);
+    let due = reset_number(world, side);
+    select_lost
+        && nothing_sent
+        && sent
+        && reset_lost
+        && reset
+        && first_due == Some(1)
+        && due == Some(4)
+}
+
 #[test]
 fn a_path_that_goes_down_takes_its_signals(rt: HostRuntime) {
-    let side = Side::Second;
-    let mut world = World::new(rt.alloc());
-    let lost = is_lost_with_path(&mut world, side, 4);
-    let nothing_sent = sends_nothing(&mut world, side, 4);
-    let sent = sends_when_up(&mut world, side, 4);
-    let lost_again = is_lost_with_reset(&mut world, side, 4);
-    let reset = accepts(&mut world, &[WorldEvent::SubsystemReset]);
-    let first_due = reset_number(&world, Side::First);
-    let due = reset_number(&world, side);
-    drop(world);
-    assert!(rt; lost, "the Select is lost");
-    assert!(rt; nothing_sent && sent);
-    assert!(rt; lost_again, "the Reset is lost");
-    assert!(rt; reset && first_due == Some(1) && due == Some(4));
+    let lost = loses_signals(&mut World::new(rt.alloc()));
+    assert!(rt; lost);
+}
+
+/// Whether an idle unit asks for attention by a signal that is answered by one.
+fn asks_for_attention(world: &mut World) -> bool {
+    let side = Side::First;
+    let asked = accepts(world, &[WorldEvent::Attention { side, path: 5 }, up(side)]);
+    let sent = world.downs_len(side);
+    let answered = accepts(world, &[down(side)]);
+    asked && sent == 1 && answered && world.downs_len(side) == 0
 }
 
 #[test]
 fn an_idle_unit_asks_for_attention(rt: HostRuntime) {
-    let side = Side::First;
-    let mut world = World::new(rt.alloc());
-    let asked = accepts(
-        &mut world,
-        &[WorldEvent::Attention { side, path: 5 }, up(side)],
-    );
-    let sent = world.downs_len(side);
-    let answered = accepts(&mut world, &[down(side)]);
-    let left = world.downs_len(side);
-    drop(world);
-    assert!(rt; asked && sent == 1 && answered && left == 0);
+    let asked = asks_for_attention(&mut World::new(rt.alloc()));
+    assert!(rt; asked);
 }
 
 /// Whether each of the events is refused because there is no such path.
@@ -384,27 +410,42 @@ fn refuses_idle(world: &mut World, side: Side) -> bool {
     are_not_now(world, &events)
 }
 
-#[test]
-fn what_cannot_be_is_refused(rt: HostRuntime) {
+/// Whether a second choice is refused before the first is answered.
+fn refuses_second_choice(world: &mut World, side: Side) -> bool {
+    let chosen = accepts(world, &[choose(side, 0)]);
+    chosen && are_not_now(world, &[choose(side, 0)])
+}
+
+/// Whether a path that is down is not brought down or reset.
+fn refuses_path_down(world: &mut World, side: Side) -> bool {
+    let down_once = accepts(world, &[WorldEvent::PathDown { side, path: 7 }]);
+    let events = [
+        WorldEvent::PathDown { side, path: 7 },
+        WorldEvent::PathReset { side, path: 7 },
+    ];
+    down_once && are_not_now(world, &events)
+}
+
+/// Whether each event is refused that cannot be.
+fn refuses(world: &mut World) -> bool {
     let side = Side::First;
-    let mut world = World::new(rt.alloc());
-    let paths_refused = refuses_paths(&mut world, side);
-    let signals_refused = refuses_signals(&mut world, side);
-    let idle_refused = refuses_idle(&mut world, side);
-    let chosen = accepts(&mut world, &[choose(side, 0)]);
-    let not_chosen_twice = are_not_now(&mut world, &[choose(side, 0)]);
-    let down_once = accepts(&mut world, &[WorldEvent::PathDown { side, path: 7 }]);
-    let not_down_twice = are_not_now(&mut world, &[WorldEvent::PathDown { side, path: 7 }]);
-    let not_reset = are_not_now(&mut world, &[WorldEvent::PathReset { side, path: 7 }]);
-    drop(world);
-    assert!(rt; paths_refused && signals_refused && idle_refused && chosen);
-    assert!(rt; not_chosen_twice && down_once && not_down_twice && not_reset);
+    let paths_refused = refuses_paths(world, side);
+    let signals_refused = refuses_signals(world, side);
+    let idle_refused = refuses_idle(world, side);
+    let choice_refused = refuses_second_choice(world, side);
+    let path_refused = refuses_path_down(world, side);
+    paths_refused && signals_refused && idle_refused && choice_refused && path_refused
 }
 
 #[test]
-fn a_run_passes_over_what_is_refused(rt: HostRuntime) {
+fn what_cannot_be_is_refused(rt: HostRuntime) {
+    let refused = refuses(&mut World::new(rt.alloc()));
+    assert!(rt; refused);
+}
+
+/// Whether a run passes over events that are refused.
+fn passes_over(world: &mut World) -> bool {
     let side = Side::Second;
-    let mut world = World::new(rt.alloc());
     let run = world
         .run(&[
             WorldEvent::LetGo { side },
@@ -415,10 +456,14 @@ fn a_run_passes_over_what_is_refused(rt: HostRuntime) {
             up(side),
         ])
         .is_ok();
-    let held = is_held_by(&world, side, 5, 0);
-    let accepted = is_first_accepted(&world, side);
-    drop(world);
-    assert!(rt; run && held && accepted);
+    let held = is_held_by(world, side, 5, 0);
+    run && held && is_first_accepted(world, side)
+}
+
+#[test]
+fn a_run_passes_over_what_is_refused(rt: HostRuntime) {
+    let passed_over = passes_over(&mut World::new(rt.alloc()));
+    assert!(rt; passed_over);
 }
 
 /// Whether this event is accepted fifteen hundred times.
@@ -430,16 +475,20 @@ fn repeats(world: &mut World, event: &WorldEvent) -> bool {
     all
 }
 
-#[test]
-fn more_than_a_thousand_signals_are_kept(rt: HostRuntime) {
+/// Whether fifteen hundred signals of one side are kept, and a run goes on behind them.
+fn keeps_signals(world: &mut World) -> bool {
     let side = Side::First;
-    let mut world = World::new(rt.alloc());
-    let asked = repeats(&mut world, &WorldEvent::Attention { side, path: 1 });
+    let asked = repeats(world, &WorldEvent::Attention { side, path: 1 });
     let kept = world.ups_len(side);
     let others = world.ups_len(Side::Second);
     let run = world
         .run(&[WorldEvent::Restart, WorldEvent::Attention { side, path: 1 }])
         .is_ok();
-    drop(world);
-    assert!(rt; asked && kept == 1500 && others == 0 && run);
+    asked && kept == 1500 && others == 0 && run
+}
+
+#[test]
+fn more_than_a_thousand_signals_are_kept(rt: HostRuntime) {
+    let kept = keeps_signals(&mut World::new(rt.alloc()));
+    assert!(rt; kept);
 }

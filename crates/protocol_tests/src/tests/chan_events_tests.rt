@@ -13,7 +13,8 @@ fn is_put_copied() -> bool {
         address: 0x500,
         bytes: Chunk::of(&[0xC1, 0xC2]),
     };
-    matches!(put.copy(), Event::Put { address: 0x500, .. })
+    let copy = put.copy();
+    matches!(&copy, Event::Put { address: 0x500, .. })
 }
 
 /// Whether a Show of this length is copied.
@@ -22,8 +23,9 @@ fn is_show_copied(length: ChunkLength) -> bool {
         address: 0x2000,
         length,
     };
+    let copy = show.copy();
     matches!(
-        show.copy(),
+        &copy,
         Event::Show {
             address: 0x2000,
             ..
@@ -37,8 +39,9 @@ fn is_key_copied() -> bool {
         address: 0x2000,
         key: Key::of_byte(0x10),
     };
+    let copy = key.copy();
     matches!(
-        key.copy(),
+        &copy,
         Event::SetKey {
             key: Key { access: 1, .. },
             ..
@@ -46,12 +49,17 @@ fn is_key_copied() -> bool {
     )
 }
 
+/// Whether each event of storage is copied; None where the length is out of range.
+fn are_storage_events_copied() -> Option<bool> {
+    let length = ChunkLength::new(256)?;
+    let put = is_put_copied();
+    let show = is_show_copied(length);
+    Some(put && show && is_key_copied())
+}
+
 #[test]
 fn events_of_storage_are_copied(rt: HostRuntime) {
-    let Some(length) = ChunkLength::new(256) else {
-        return assert!(rt; false, "the length is in range");
-    };
-    assert!(rt; is_put_copied() && is_show_copied(length) && is_key_copied());
+    assert!(rt; are_storage_events_copied() == Some(true));
 }
 
 /// The side of the copy of a report, and the numbers of its program, command and chunk; None where another unit reports.
@@ -63,7 +71,8 @@ fn copied_report() -> Option<(Side, (u64, u64, u64))> {
         sequence: 3,
         answer: DeviceAnswer::Supplied(Chunk::of(&[0xD1, 0xD2])),
     };
-    match (Event::Report { unit: 5, report }).copy() {
+    let copy = (Event::Report { unit: 5, report }).copy();
+    match &copy {
         Event::Report { unit: 5, report } => {
             Some((
                 report.side,
@@ -76,10 +85,7 @@ fn copied_report() -> Option<(Side, (u64, u64, u64))> {
 
 #[test]
 fn reports_are_copied(rt: HostRuntime) {
-    let Some((side, numbers)) = copied_report() else {
-        return assert!(rt; false, "the same unit reports");
-    };
-    assert!(rt; side.same(Side::Second) && numbers == (1, 2, 3));
+    assert!(rt; copied_report() == Some((Side::Second, (1, 2, 3))));
 }
 
 /// Whether the act of a unit is copied.
@@ -91,8 +97,9 @@ fn is_act_copied() -> bool {
             side: Side::Second,
         },
     };
+    let copy = told.copy();
     matches!(
-        told.copy(),
+        &copy,
         Event::Act {
             unit: 3,
             act: UnitAct::Notice {
@@ -105,75 +112,84 @@ fn is_act_copied() -> bool {
 
 /// Whether the restart of a unit is copied.
 fn is_restart_copied() -> bool {
-    matches!(
-        (Event::Restart { unit: 5 }).copy(),
-        Event::Restart { unit: 5 }
-    )
+    let copy = (Event::Restart { unit: 5 }).copy();
+    matches!(&copy, Event::Restart { unit: 5 })
 }
 
-/// What the copy of a TEST PENDING INTERRUPTION of this processor executes, and on which; None where it is another event.
-fn copied_request(cpu: Cpu) -> Option<(Cpu, OtherInstruction)> {
+/// Whether a TEST PENDING INTERRUPTION of processor 2 is copied; None where the number is out of range.
+fn is_request_copied() -> Option<bool> {
     let asked = Event::ExecuteOther {
-        cpu,
+        cpu: Cpu::new(2)?,
         instruction: OtherInstruction::Tpi {
             mask: 0x80,
             address: 0x600,
         },
     };
-    match asked.copy() {
-        Event::ExecuteOther { cpu, instruction } => Some((cpu, instruction)),
-        _ => None,
+    let copy = asked.copy();
+    Some(is_request_of_second(&copy))
+}
+
+/// Whether the event is that request.
+fn is_request_of_second(event: &Event) -> bool {
+    match event {
+        Event::ExecuteOther {
+            cpu,
+            instruction: OtherInstruction::Tpi {
+                mask: 0x80,
+                address: 0x600,
+            },
+        } => cpu.number() == 2,
+        _ => false,
     }
 }
 
 #[test]
 fn events_of_units_and_requests_are_copied(rt: HostRuntime) {
-    assert!(rt; is_act_copied() && is_restart_copied());
-    let Some(cpu) = Cpu::new(2) else {
-        return assert!(rt; false, "the number is in range");
-    };
-    let Some((cpu, instruction)) = copied_request(cpu) else {
-        return assert!(rt; false, "the same instruction is executed");
-    };
-    assert!(rt;
-        cpu.number() == 2
-            && matches!(
-                instruction,
-                OtherInstruction::Tpi {
-                    mask: 0x80,
-                    address: 0x600
-                }
-            )
-    );
+    let act = is_act_copied();
+    let restart = is_restart_copied();
+    assert!(rt; act && restart && is_request_copied() == Some(true));
+}
+
+/// Whether the events of one channel path are copied.
+fn are_path_events_copied() -> bool {
+    let down = (Event::PathDown { chpid: 0x10 }).copy();
+    let up = (Event::PathUp { chpid: 0x11 }).copy();
+    let reset = (Event::PathReset { chpid: 0xFF }).copy();
+    let same_down = matches!(&down, Event::PathDown { chpid: 0x10 });
+    let same_up = matches!(&up, Event::PathUp { chpid: 0x11 });
+    let same_reset = matches!(&reset, Event::PathReset { chpid: 0xFF });
+    same_down && same_up && same_reset
+}
+
+/// Whether the reset of all is copied.
+fn is_system_reset_copied() -> bool {
+    let reset = Event::SystemReset.copy();
+    matches!(&reset, Event::SystemReset)
 }
 
 #[test]
 fn events_of_channel_paths_are_copied(rt: HostRuntime) {
-    let down = matches!(
-        (Event::PathDown { chpid: 0x10 }).copy(),
-        Event::PathDown { chpid: 0x10 }
-    );
-    let up = matches!(
-        (Event::PathUp { chpid: 0x11 }).copy(),
-        Event::PathUp { chpid: 0x11 }
-    );
-    let path_reset = matches!(
-        (Event::PathReset { chpid: 0xFF }).copy(),
-        Event::PathReset { chpid: 0xFF }
-    );
-    let system_reset = matches!(Event::SystemReset.copy(), Event::SystemReset);
-    assert!(rt; down && up && path_reset && system_reset);
+    assert!(rt; are_path_events_copied() && is_system_reset_copied());
+}
+
+/// Whether the reply to a choice that made status pending is copied.
+fn is_pending_copied() -> bool {
+    let pending = Reply::Pending.copy();
+    matches!(&pending, Reply::Pending)
+}
+
+/// Whether a reply that shows storage is copied.
+fn is_shown_copied() -> bool {
+    let shown = Reply::Shown {
+        bytes: Chunk::of(&[0xC1]),
+    };
+    let copy = shown.copy();
+    matches!(&copy, Reply::Shown { .. })
 }
 
 #[test]
 fn replies_are_copied(rt: HostRuntime) {
-    let pending = matches!(Reply::Pending.copy(), Reply::Pending);
-    let shown = Reply::Shown {
-        bytes: Chunk::of(&[0xC1]),
-    };
-    let shown_too = matches!(shown.copy(), Reply::Shown { .. });
-    drop(shown);
-    assert!(rt; pending && shown_too);
+    assert!(rt; is_pending_copied() && is_shown_copied());
 }
 
 /// The number and the path of a Reset, or of a Halt, that was sent: first of the one, then of the other.
@@ -185,12 +201,15 @@ fn sent(reply: &Reply) -> (Option<(u64, u64)>, Option<(u64, u64)>) {
     }
 }
 
-#[test]
-fn resets_and_halts_that_are_sent_are_copied(rt: HostRuntime) {
-    let Some(path) = Path::new(5) else {
-        return assert!(rt; false, "the path is in range");
-    };
+/// Whether a Reset and a Halt that are sent are copied; None where the path is out of range.
+fn are_sent_copied() -> Option<bool> {
+    let path = Path::new(5)?;
     let reset = sent(&(Reply::ResetSent { number: 3, path }).copy());
     let halt = sent(&(Reply::HaltSent { number: 4, path }).copy());
-    assert!(rt; reset == (Some((3, 5)), None) && halt == (None, Some((4, 5))));
+    Some(reset == (Some((3, 5)), None) && halt == (None, Some((4, 5))))
+}
+
+#[test]
+fn resets_and_halts_that_are_sent_are_copied(rt: HostRuntime) {
+    assert!(rt; are_sent_copied() == Some(true));
 }

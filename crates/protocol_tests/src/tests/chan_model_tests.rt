@@ -8,6 +8,7 @@ use chan_model::paths::{PathSet, mask_of_path};
 use chan_model::report::{DeviceAnswer, Report};
 use chan_model::signal::{Down, Load, Up};
 use scsw_irb::serials::Serials;
+use std::alloc::Global;
 use storage_keys::StorageFault;
 
 /// Whether the path of this number is in the set.
@@ -32,26 +33,29 @@ fn members(set: PathSet) -> [bool; 8] {
     ]
 }
 
+/// Whether the names at the ends of their ranges have the places that they stand for; None where one is out of range.
+fn have_places() -> Option<bool> {
+    let last = Path::new(7)?;
+    let first = Path::new(0)?;
+    let cpu = Cpu::new(15)?;
+    let same = last.same(last) && !last.same(first);
+    let masks = (mask_of_path(Some(last)), mask_of_path(Some(first)));
+    Some(same && last.index() == 7 && cpu.number() == 15 && masks == (1, 0x80))
+}
+
+/// Whether a set of paths has the members of its mask, and a path that is none has no bit.
+fn has_members() -> bool {
+    let set = PathSet::of_mask(0xA1);
+    mask_of_path(None) == 0
+        && set.mask() == 0xA1
+        && members(set) == [true, false, true, false, false, false, false, true]
+}
+
 #[test]
 fn names_keep_their_range(rt: HostRuntime) {
-    assert!(rt; Path::new(8).is_none() && Cpu::new(16).is_none());
-    match (Path::new(7), Path::new(0), Cpu::new(15)) {
-        (Some(last), Some(first), Some(cpu)) => {
-            assert!(rt;
-                last.index() == 7 && last.same(last) && !last.same(first) && cpu.number() == 15
-            );
-            assert!(rt; mask_of_path(Some(last)) == 1 && mask_of_path(Some(first)) == 0x80);
-        }
-        _ => assert!(rt; false, "the names are in range"),
-    }
-    assert!(rt;
-        mask_of_path(None) == 0
-            && PathSet::of_mask(0xA1).mask() == 0xA1
-            && members(PathSet::of_mask(0xA1))
-                == [true, false, true, false, false, false, false, true]
-            && Side::First.same(Side::First)
-            && !Side::First.same(Side::Second)
-    );
+    let beyond = Path::new(8).is_none() && Cpu::new(16).is_none();
+    let sides = Side::First.same(Side::First) && !Side::First.same(Side::Second);
+    assert!(rt; beyond && have_places() == Some(true) && has_members() && sides);
 }
 
 fn is_path(path: Option<Path>, number: usize) -> bool {
@@ -61,39 +65,64 @@ fn is_path(path: Option<Path>, number: usize) -> bool {
     }
 }
 
+/// Whether the first path is found from each place on, and round the end.
+fn is_first_found() -> bool {
+    let set = PathSet::of_mask(0xA1);
+    let at_once = is_path(set.first_from(0), 0);
+    let next = is_path(set.first_from(1), 2);
+    let last = is_path(set.first_from(3), 7);
+    let round = is_path(PathSet::of_mask(0x20).first_from(3), 2);
+    at_once && next && last && round && PathSet::none().first_from(5).is_none()
+}
+
+/// Whether the paths of a set come one by one.
+fn comes_one_by_one() -> bool {
+    let mut paths = PathSet::of_mask(0xA1).each_path();
+    let first = is_path(paths.next(), 0);
+    let second = is_path(paths.next(), 2);
+    let third = is_path(paths.next(), 7);
+    first && second && third && paths.next().is_none()
+}
+
 #[test]
 fn paths_of_a_set_come_in_order(rt: HostRuntime) {
-    let set = PathSet::of_mask(0xA1);
-    assert!(rt;
-        is_path(set.first_from(0), 0)
-            && is_path(set.first_from(1), 2)
-            && is_path(set.first_from(3), 7)
-    );
-    assert!(rt;
-        is_path(PathSet::of_mask(0x20).first_from(3), 2) && PathSet::none().first_from(5).is_none()
-    );
-    let mut paths = set.each_path();
-    assert!(rt;
-        is_path(paths.next(), 0)
-            && is_path(paths.next(), 2)
-            && is_path(paths.next(), 7)
-            && paths.next().is_none()
-    );
+    assert!(rt; is_first_found() && comes_one_by_one());
+}
+
+/// Whether a chunk of three bytes is copied, and counts as the load that it is.
+fn is_chunk_copied(bytes: &Chunk) -> bool {
+    let copied = bytes.copy().as_slice() == [0xC1, 0xC2, 0xC3].as_slice();
+    let loaded = Load::Bytes(bytes.copy()).copy().len();
+    bytes.len() == 3 && copied && loaded == 3 && Load::Absorbed(9).len() == 9
+}
+
+/// Whether signals each way are copied.
+fn are_signals_copied() -> bool {
+    let halt = Down::Halt { number: 3 }.copy();
+    let busy = Up::Busy { number: 3 }.copy();
+    let same_halt = matches!(&halt, Down::Halt { number: 3 });
+    let same_busy = matches!(&busy, Up::Busy { number: 3 });
+    same_halt && same_busy
 }
 
 #[test]
 fn chunks_and_signals_are_copied(rt: HostRuntime) {
     let mut bytes = Chunk::of(&[0xC1, 0xC2]);
     bytes.push(0xC3);
-    let count = bytes.len();
-    let copied = bytes.copy().as_slice() == [0xC1, 0xC2, 0xC3].as_slice();
-    let loaded = Load::Bytes(bytes.copy()).copy().len();
+    let chunk = is_chunk_copied(&bytes);
     drop(bytes);
-    let absorbed = Load::Absorbed(9).len();
-    let halt = matches!(Down::Halt { number: 3 }.copy(), Down::Halt { number: 3 });
-    let busy = matches!(Up::Busy { number: 3 }.copy(), Up::Busy { number: 3 });
-    assert!(rt; count == 3 && copied && loaded == 3);
-    assert!(rt; absorbed == 9 && halt && busy);
+    assert!(rt; chunk && are_signals_copied());
+}
+
+/// Whether a report is that of the second side, with these numbers and bytes.
+fn is_second(report: &Report) -> bool {
+    let answer = report.answer.copy();
+    let same_bytes = match &answer {
+        DeviceAnswer::Supplied(bytes) => bytes.as_slice() == [0xD1, 0xD2].as_slice(),
+        _ => false,
+    };
+    let numbers = (report.number, report.command, report.sequence);
+    same_bytes && report.side.same(Side::Second) && numbers == (1, 2, 3)
 }
 
 #[test]
@@ -104,27 +133,16 @@ fn reports_are_copied(rt: HostRuntime) {
         command: 2,
         sequence: 3,
         answer: DeviceAnswer::Supplied(Chunk::of(&[0xD1, 0xD2])),
-    }
-    .copy();
-    let side = report.side;
-    let numbers = (report.number, report.command, report.sequence);
-    let same_bytes = match report.answer.copy() {
-        DeviceAnswer::Supplied(bytes) => Some(bytes.as_slice() == [0xD1, 0xD2].as_slice()),
-        _ => None,
     };
+    let same = is_second(&report.copy());
     drop(report);
-    assert!(rt; side.same(Side::Second) && numbers == (1, 2, 3));
-    assert!(rt; same_bytes.is_some(), "bytes were supplied");
-    assert!(rt; same_bytes == Some(true));
+    assert!(rt; same);
 }
 
 #[test]
 fn lengths_keep_their_range(rt: HostRuntime) {
-    assert!(rt; ChunkLength::new(257).is_none());
-    match ChunkLength::new(256) {
-        Some(length) => assert!(rt; length.get() == 256),
-        None => assert!(rt; false, "the length is in range"),
-    }
+    let greatest = ChunkLength::new(256).map(|length| length.get());
+    assert!(rt; greatest == Some(256) && ChunkLength::new(257).is_none());
 }
 
 #[test]
@@ -144,9 +162,15 @@ fn codes_bring_their_serials(rt: HostRuntime) {
     );
 }
 
-#[test]
-fn refusals_say_what_they_are(rt: HostRuntime) {
-    let alloc = rt.alloc();
+/// Whether a refusal says this; None where there is no memory.
+fn says(alloc: Global, fault: Fault, text: &str) -> Option<bool> {
+    let said = format!(in alloc; "{fault}").ok()?;
+    Some(said.as_str() == text)
+}
+
+/// Whether each refusal says what it is; None where there is no memory.
+fn say_what_they_are(alloc: Global) -> Option<bool> {
+    let mut all = true;
     for (fault, text) in [
         (Fault::NoMemory, "no memory"),
         (Fault::ConfigBad(7), "configuration rule 7"),
@@ -156,9 +180,12 @@ fn refusals_say_what_they_are(rt: HostRuntime) {
             "storage: Addressing",
         ),
     ] {
-        match format!(in alloc; "{fault}") {
-            Ok(said) => assert!(rt; said.as_str() == text),
-            Err(_) => assert!(rt; false, "there is memory"),
-        }
+        all = says(alloc, fault, text)? && all;
     }
+    Some(all)
+}
+
+#[test]
+fn refusals_say_what_they_are(rt: HostRuntime) {
+    assert!(rt; say_what_they_are(rt.alloc()) == Some(true));
 }

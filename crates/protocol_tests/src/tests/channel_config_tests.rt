@@ -7,8 +7,9 @@ use channel_config::parts::{ConcurrentSense, PathReturn, UnitKind};
 use memory::{Allocator, FailingMemory, Supply};
 use std::alloc::Global;
 
-#[test]
-fn words_name_subchannels(rt: HostRuntime) {
+/// Whether each word names its subchannel where there are so many sets, or none.
+fn are_named() -> bool {
+    let mut all = true;
     for (sets, word, named) in [
         (1, 0x0001_0000, Some(SubchannelId { set: 0, number: 0 })),
         (
@@ -26,44 +27,56 @@ fn words_name_subchannels(rt: HostRuntime) {
         (4, 0x8001_0000, None),
         (4, 0x0000_0000, None),
     ] {
-        assert!(rt; subchannel_named(sets, word) == named, "{word:x}");
+        all = subchannel_named(sets, word) == named && all;
     }
+    all
+}
+
+#[test]
+fn words_name_subchannels(rt: HostRuntime) {
+    assert!(rt; are_named());
+}
+
+/// The refusal of what breaks this rule.
+fn broken(rule: ConfigRule) -> Result<(), ConfigFault> {
+    Err(ConfigFault::Rule(rule))
+}
+
+/// Whether storage is given once, of a size that is in range.
+fn takes_storage_once(config: &mut Config) -> bool {
+    let before = config.blocks();
+    let mut all = true;
+    for (blocks, wanted) in [
+        (0xF, broken(ConfigRule::StorageSize)),
+        (0x1001, broken(ConfigRule::StorageSize)),
+        (0x1000, Ok(())),
+        (0x10, broken(ConfigRule::StorageSize)),
+    ] {
+        all = config.storage(blocks) == wanted && all;
+    }
+    before == None && all && config.blocks() == Some(0x1000)
+}
+
+/// Whether the number of sets is given once, of those that are in range; it is 1 before.
+fn takes_sets_once(config: &mut Config) -> bool {
+    let before = config.set_count();
+    let mut all = true;
+    for (sets, wanted) in [
+        (0, broken(ConfigRule::Sets)),
+        (5, broken(ConfigRule::Sets)),
+        (4, Ok(())),
+        (4, broken(ConfigRule::Sets)),
+    ] {
+        all = config.sets(sets) == wanted && all;
+    }
+    before == 1 && all && config.set_count() == 4
 }
 
 #[test]
 fn storage_and_sets_are_given_once(rt: HostRuntime) {
-    let mut config = Config::new(rt.alloc());
-    let blocks_before = config.blocks();
-    let too_few = config.storage(0xF);
-    let too_many = config.storage(0x1001);
-    let given = config.storage(0x1000);
-    let given_twice = config.storage(0x10);
-    let blocks = config.blocks();
-    let sets_before = config.set_count();
-    let no_sets = config.sets(0);
-    let five_sets = config.sets(5);
-    let four_sets = config.sets(4);
-    let sets_twice = config.sets(4);
-    let sets = config.set_count();
-    drop(config);
-    assert!(rt;
-        blocks_before == None
-            && too_few == Err(ConfigFault::Rule(ConfigRule::StorageSize))
-            && too_many == Err(ConfigFault::Rule(ConfigRule::StorageSize))
-            && given == Ok(())
-    );
-    assert!(rt;
-        given_twice == Err(ConfigFault::Rule(ConfigRule::StorageSize))
-            && blocks == Some(0x1000)
-            && sets_before == 1
-            && no_sets == Err(ConfigFault::Rule(ConfigRule::Sets))
-    );
-    assert!(rt;
-        five_sets == Err(ConfigFault::Rule(ConfigRule::Sets))
-            && four_sets == Ok(())
-            && sets_twice == Err(ConfigFault::Rule(ConfigRule::Sets))
-            && sets == 4
-    );
+    let storage = takes_storage_once(&mut Config::new(rt.alloc()));
+    let sets = takes_sets_once(&mut Config::new(rt.alloc()));
+    assert!(rt; storage && sets);
 }
 
 /// Whether so many units are accepted, numbered from 0.
@@ -75,44 +88,48 @@ fn accepts_units(config: &mut Config, count: u32) -> bool {
     all
 }
 
+/// Whether paths that are in range are named once, and kept in the order they were given in.
+fn names_paths_once(config: &mut Config) -> bool {
+    let mut all = true;
+    for (path, wanted) in [
+        (0x100, broken(ConfigRule::ChannelPath)),
+        (0xFF, Ok(())),
+        (0x10, Ok(())),
+        (0xFF, broken(ConfigRule::ChannelPath)),
+    ] {
+        all = config.path(path) == wanted && all;
+    }
+    all && config.paths() == [0xFF, 0x10].as_slice()
+}
+
+/// Whether units are numbered in turn, 400 in hexadecimal of them and no more.
+fn numbers_units(config: &mut Config) -> bool {
+    let out_of_turn = config.unit(1, UnitKind::Block);
+    let units_accepted = accepts_units(config, 0x400);
+    let one_more = config.unit(0x400, UnitKind::Block);
+    out_of_turn == broken(ConfigRule::UnitNumber)
+        && units_accepted
+        && one_more == broken(ConfigRule::UnitNumber)
+        && config.units().len() == 0x400
+}
+
 #[test]
 fn paths_and_units_are_named_once(rt: HostRuntime) {
-    let mut config = Config::new(rt.alloc());
-    let out_of_range = config.path(0x100);
-    let first = config.path(0xFF);
-    let second = config.path(0x10);
-    let path_twice = config.path(0xFF);
-    let in_order = config.paths() == [0xFF, 0x10].as_slice();
-    let out_of_turn = config.unit(1, UnitKind::Block);
-    let units_accepted = accepts_units(&mut config, 0x400);
-    let one_more = config.unit(0x400, UnitKind::Block);
-    let count = config.units().len();
-    drop(config);
-    assert!(rt;
-        out_of_range == Err(ConfigFault::Rule(ConfigRule::ChannelPath))
-            && first == Ok(())
-            && second == Ok(())
-            && path_twice == Err(ConfigFault::Rule(ConfigRule::ChannelPath))
-    );
-    assert!(rt; in_order, "the paths are in the order they were given in");
-    assert!(rt;
-        out_of_turn == Err(ConfigFault::Rule(ConfigRule::UnitNumber))
-            && units_accepted
-            && one_more == Err(ConfigFault::Rule(ConfigRule::UnitNumber))
-            && count == 0x400
-    );
+    let paths = names_paths_once(&mut Config::new(rt.alloc()));
+    let units = numbers_units(&mut Config::new(rt.alloc()));
+    assert!(rt; paths && units);
 }
 
 /// Whether each line that shares units is answered as its rule has it.
 fn shares(config: &mut Config) -> bool {
     let lines: [(&[u32], Result<(), ConfigFault>); 7] = [
-        (&[0, 6], Err(ConfigFault::Rule(ConfigRule::SharedUnit))),
-        (&[1, 0, 1], Err(ConfigFault::Rule(ConfigRule::SharedUnit))),
+        (&[0, 6], broken(ConfigRule::SharedUnit)),
+        (&[1, 0, 1], broken(ConfigRule::SharedUnit)),
         (&[4, 1], Ok(())),
-        (&[0, 1], Err(ConfigFault::Rule(ConfigRule::SharedUnit))),
-        (&[4, 1], Err(ConfigFault::Rule(ConfigRule::SharedUnit))),
+        (&[0, 1], broken(ConfigRule::SharedUnit)),
+        (&[4, 1], broken(ConfigRule::SharedUnit)),
         (&[2, 3], Ok(())),
-        (&[5, 2], Err(ConfigFault::Rule(ConfigRule::SharedUnit))),
+        (&[5, 2], broken(ConfigRule::SharedUnit)),
     ];
     let mut all = true;
     for (units, wanted) in lines {
@@ -143,17 +160,19 @@ fn are_groups_refused(alloc: Global, config: &Config) -> bool {
     all
 }
 
+/// Whether six units share as they should, in groups that take six requests; None where there is no memory.
+fn share_in_groups(alloc: Global, config: &mut Config) -> Option<bool> {
+    let units_accepted = accepts_units(config, 6);
+    let shared = shares(config);
+    let refused = are_groups_refused(alloc, config);
+    let grouped = are_grouped(alloc, config)?;
+    Some(units_accepted && shared && refused && grouped)
+}
+
 #[test]
 fn units_share_in_groups(rt: HostRuntime) {
-    let mut config = Config::new(rt.alloc());
-    let units_accepted = accepts_units(&mut config, 6);
-    let shared = shares(&mut config);
-    let grouped = are_grouped(rt.alloc(), &config);
-    let refused = are_groups_refused(rt.alloc(), &config);
-    drop(config);
-    assert!(rt; units_accepted && shared);
-    assert!(rt; grouped.is_some(), "the allocator has room");
-    assert!(rt; grouped == Some(true) && refused);
+    let shared = share_in_groups(rt.alloc(), &mut Config::new(rt.alloc()));
+    assert!(rt; shared == Some(true));
 }
 
 /// Whether nine channel paths, two units and two subchannel sets are accepted.
@@ -221,7 +240,7 @@ fn refuses_subchannels(config: &mut Config) -> bool {
         ),
     ] {
         let answer = config.subchannel(word, device, unit, paths);
-        refused = answer == Err(ConfigFault::Rule(rule)) && refused;
+        refused = answer == broken(rule) && refused;
     }
     refused
 }
@@ -240,26 +259,29 @@ fn has_second(config: &Config) -> bool {
     }
 }
 
-#[test]
-fn subchannels_use_what_there_is(rt: HostRuntime) {
+/// Whether subchannels use the parts that there are, a side of a unit each, and the number of sets is not given after them.
+fn uses_what_there_is(config: &mut Config) -> bool {
     let eight = [0x10, 0x11, 0x12, 0x13, 0x14, 0x15, 0x16, 0x17];
-    let mut config = Config::new(rt.alloc());
-    let parts_accepted = accepts_parts(&mut config);
+    let parts_accepted = accepts_parts(config);
     let first = config.subchannel(0x0001_0000, 0xFFFF, 0, &eight);
-    let refused = refuses_subchannels(&mut config);
+    let refused = refuses_subchannels(config);
     let second = config.subchannel(0x0003_0000, 0x100, 0, &[0x18, 0x10]);
     let third = config.subchannel(0x0001_0001, 0x100, 0, &[0x10]);
     let sets_too_late = config.sets(2);
-    let count = config.subchannels().len();
-    let second_kept = has_second(&config);
-    drop(config);
-    assert!(rt; parts_accepted && first == Ok(()) && refused && second == Ok(()));
-    assert!(rt;
-        third == Err(ConfigFault::Rule(ConfigRule::UnitOfSubchannel))
-            && sets_too_late == Err(ConfigFault::Rule(ConfigRule::Sets))
-            && count == 2
-            && second_kept
-    );
+    parts_accepted
+        && first == Ok(())
+        && refused
+        && second == Ok(())
+        && third == broken(ConfigRule::UnitOfSubchannel)
+        && sets_too_late == broken(ConfigRule::Sets)
+        && config.subchannels().len() == 2
+        && has_second(config)
+}
+
+#[test]
+fn subchannels_use_what_there_is(rt: HostRuntime) {
+    let used = uses_what_there_is(&mut Config::new(rt.alloc()));
+    assert!(rt; used);
 }
 
 /// A path, a unit, which grows two lists, and a subchannel.
@@ -269,9 +291,8 @@ fn fill<S: Supply>(config: &mut Config, supply: &mut S) -> Result<(), ConfigFaul
     config.subchannel_with(supply, 0x1_0000, 0x100, 0, &[0x10])
 }
 
-/// Whether a configuration to which so many requests are granted has what they were asked for, and no more.
-fn fills_as_granted(alloc: Global, left: u64) -> bool {
-    let mut config = Config::new(alloc);
+/// Whether a configuration has what so many granted requests were for, and no more.
+fn is_filled_as_granted(config: &mut Config, left: u64) -> bool {
     let mut supply = FailingMemory {
         left,
         refused: false,
@@ -281,12 +302,21 @@ fn fills_as_granted(alloc: Global, left: u64) -> bool {
     } else {
         Ok(())
     };
-    let filled = fill(&mut config, &mut supply);
+    let filled = fill(config, &mut supply);
     filled == wanted
         && supply.refused == (left < 4)
         && config.paths().len() == (usize::from(left > 0))
         && config.units().len() == (usize::from(left > 2))
         && config.subchannels().len() == (usize::from(left > 3))
+}
+
+/// The same of a new configuration, for each number of requests.
+fn fills_as_granted(alloc: Global) -> bool {
+    let mut all = true;
+    for left in 0..6 {
+        all = is_filled_as_granted(&mut Config::new(alloc), left) && all;
+    }
+    all
 }
 
 /// Whether a configuration is filled where no request is refused.
@@ -297,10 +327,7 @@ fn fills(alloc: Global) -> bool {
 
 #[test]
 fn each_growth_is_refused_in_turn(rt: HostRuntime) {
-    for left in 0..6 {
-        assert!(rt; fills_as_granted(rt.alloc(), left), "{left}");
-        assert!(rt; fills(rt.alloc()));
-    }
+    assert!(rt; fills_as_granted(rt.alloc()) && fills(rt.alloc()));
 }
 
 /// Whether of three subchannels the second alone is one where the concurrent-sense bit is kept.
@@ -323,20 +350,21 @@ fn keeps_second(config: &mut Config) -> bool {
     made && kept == 1 && second_kept
 }
 
-#[test]
-fn choices_are_as_they_were_said_last(rt: HostRuntime) {
-    let mut config = Config::new(rt.alloc());
+/// Whether what is to become of a path that returns is as it was said last.
+fn keeps_path_return(config: &mut Config) -> bool {
     let unsaid = config.path_return();
     config.set_path_return(PathReturn::Initialized);
     let said = config.path_return();
     config.set_path_return(PathReturn::Available);
     let said_again = config.path_return();
-    let second_kept = keeps_second(&mut config);
-    drop(config);
-    assert!(rt;
-        unsaid == PathReturn::Available
-            && said == PathReturn::Initialized
-            && said_again == PathReturn::Available
-            && second_kept
-    );
+    unsaid == PathReturn::Available
+        && said == PathReturn::Initialized
+        && said_again == PathReturn::Available
+}
+
+#[test]
+fn choices_are_as_they_were_said_last(rt: HostRuntime) {
+    let path_return = keeps_path_return(&mut Config::new(rt.alloc()));
+    let concurrent_sense = keeps_second(&mut Config::new(rt.alloc()));
+    assert!(rt; path_return && concurrent_sense);
 }

@@ -8,7 +8,7 @@ use hold::Hold;
 
 /// Whether the first program is offered, and its Select sent.
 fn is_offered(offered: &OnPath<PlainDown>) -> bool {
-    matches!(offered.signal.kept, Down::Select { number: 1 })
+    matches!(&offered.signal.kept, Down::Select { number: 1 })
 }
 
 /// Whether the hold takes this signal that came by this path.
@@ -40,7 +40,7 @@ fn comes_back(hold: &mut Hold, path: Path) -> bool {
     });
     let grant = hold.take(path, &back.lend(), true).sent;
     matches!(
-        grant,
+        &grant,
         Some(OnPath {
             signal: PlainDown {
                 kept: Down::Grant {
@@ -58,7 +58,7 @@ fn comes_back(hold: &mut Hold, path: Path) -> bool {
 fn lets_go(hold: &mut Hold) -> bool {
     let release = hold.let_go();
     matches!(
-        release,
+        &release,
         Some(OnPath {
             signal: PlainDown {
                 kept: Down::Release { number: 1 },
@@ -84,16 +84,15 @@ fn a_program_leaves_comes_back_and_ends(rt: HostRuntime) {
     let let_go = lets_go(&mut hold);
     let released = takes(&mut hold, second, PlainUp::of(Up::Released { number: 1 }));
     let free = matches!(hold.state().phase, HoldPhase::Free);
-    assert!(rt; offered && accepted && connected && left);
-    assert!(rt; away && granted && back);
-    assert!(rt; let_go && released && free);
+    let went = offered && accepted && connected && left && away;
+    assert!(rt; went && granted && back && let_go && released && free);
 }
 
 /// Whether a Reset is sent on this path, with what the hold knows of restarts.
 fn sends_reset(hold: &mut Hold, path: Path) -> bool {
     let reset = hold.send_reset(path);
     matches!(
-        reset,
+        &reset,
         Some(OnPath {
             signal: PlainDown {
                 kept: Down::Reset {
@@ -118,6 +117,5 @@ fn a_reset_is_sent_again_where_its_path_is_lost(rt: HostRuntime) {
     let lost = hold.path_down(path, 9);
     let cleared_late = takes(&mut hold, path, PlainUp::of(Up::Cleared { number: 7 }));
     let cleared = takes(&mut hold, path, PlainUp::of(Up::Cleared { number: 9 }));
-    assert!(rt; told && !lost_unsent && sent);
-    assert!(rt; lost && !cleared_late && cleared);
+    assert!(rt; told && !lost_unsent && sent && lost && !cleared_late && cleared);
 }

@@ -9,52 +9,65 @@ use unit::Unit;
 
 /// The code of the command that the device is to begin.
 pub(crate) fn code_to_begin(unit: &Unit) -> Option<u8> {
-    let Some(Work::Call { call, .. }) = unit.work() else {
-        return None;
-    };
-    let Call::Initial { code, .. } = call else {
-        return None;
-    };
-    Some(code)
+    let work = unit.work();
+    match &work {
+        Some(
+            Work::Call {
+                call: Call::Initial { code, .. },
+                ..
+            },
+        ) => Some(*code),
+        _ => None,
+    }
 }
 
 /// The path by which the command came that the device is to begin: its side, and its index.
 pub(crate) fn came_by(unit: &Unit) -> Option<(Side, usize)> {
-    let Some(Work::Call { call, .. }) = unit.work() else {
-        return None;
-    };
-    let Call::Initial { came_by, .. } = call else {
-        return None;
-    };
-    Some((came_by.side, came_by.path.index()))
+    let work = unit.work();
+    match &work {
+        Some(
+            Work::Call {
+                call: Call::Initial { came_by, .. },
+                ..
+            },
+        ) => Some((came_by.side, came_by.path.index())),
+        _ => None,
+    }
 }
 
 /// How many bytes of a write the device is to absorb.
 pub(crate) fn count_to_absorb(unit: &Unit) -> Option<usize> {
-    let Some(Work::Call { call, .. }) = unit.work() else {
-        return None;
-    };
-    let Call::Absorb { bytes } = call else {
-        return None;
-    };
-    Some(bytes.len())
+    let work = unit.work();
+    match &work {
+        Some(
+            Work::Call {
+                call: Call::Absorb { bytes },
+                ..
+            },
+        ) => Some(bytes.len()),
+        _ => None,
+    }
 }
 
 /// How many bytes of a read the device is asked for.
 pub(crate) fn most_asked(unit: &Unit) -> Option<u16> {
-    let Some(Work::Call { call, .. }) = unit.work() else {
-        return None;
-    };
-    let Call::Supply { most } = call else {
-        return None;
-    };
-    Some(most)
+    let work = unit.work();
+    match &work {
+        Some(
+            Work::Call {
+                call: Call::Supply { most },
+                ..
+            },
+        ) => Some(*most),
+        _ => None,
+    }
 }
 
 /// Whether the device is to finish its command.
 pub(crate) fn is_to_finish(unit: &Unit) -> bool {
+    let work = unit.work();
     matches!(
-        unit.work(),
+        &work,
         Some(Work::Call {
             call: Call::Finish,
             ..
@@ -64,8 +77,9 @@ pub(crate) fn is_to_finish(unit: &Unit) -> bool {
 
 /// Whether the first chunk is to be sent again, without a call of the device.
 pub(crate) fn is_to_send_again(unit: &Unit) -> bool {
+    let work = unit.work();
     matches!(
-        unit.work(),
+        &work,
         Some(Work::Report(Report {
             sequence: 1,
             answer: DeviceAnswer::Again,
@@ -88,45 +102,51 @@ pub(crate) fn is_refused(unit: &Unit, report: &Report) -> bool {
 }
 
 /// The connection and the chunk of the Data that was sent, and how many bytes it brings.
-pub(crate) fn data_of(came: Taken<Up>) -> Option<(u64, u64, usize)> {
-    let Some(OnPath { signal, .. }) = came.sent else {
-        return None;
-    };
-    let Up::Data {
-        connection,
-        sequence,
-        load,
-        ..
-    } = signal
-    else {
-        return None;
-    };
-    Some((connection, sequence, load.len()))
+pub(crate) fn data_of(came: &Taken<Up>) -> Option<(u64, u64, usize)> {
+    match &came.sent {
+        Some(
+            OnPath {
+                signal: Up::Data {
+                    connection,
+                    sequence,
+                    load,
+                    ..
+                },
+                ..
+            },
+        ) => Some((*connection, *sequence, load.len())),
+        _ => None,
+    }
 }
 
 /// The chunk of the Data that was sent, and how many bytes of a write it says to be absorbed.
-pub(crate) fn absorbed_of(came: Taken<Up>) -> Option<(u64, u16)> {
-    let Some(OnPath { signal, .. }) = came.sent else {
-        return None;
-    };
-    let Up::Data { sequence, load, .. } = signal else {
-        return None;
-    };
-    match load {
-        Load::Absorbed(count) => Some((sequence, count)),
-        Load::Bytes(_) => None,
+pub(crate) fn absorbed_of(came: &Taken<Up>) -> Option<(u64, u16)> {
+    match &came.sent {
+        Some(
+            OnPath {
+                signal: Up::Data {
+                    sequence,
+                    load: Load::Absorbed(count),
+                    ..
+                },
+                ..
+            },
+        ) => Some((*sequence, *count)),
+        _ => None,
     }
 }
 
 /// Whether the end of the command was sent, and the device had no more bytes.
-pub(crate) fn is_end(came: Taken<Up>) -> bool {
-    let end = came.sent.map(|sent| sent.signal);
+pub(crate) fn is_end(came: &Taken<Up>) -> bool {
     matches!(
-        end,
-        Some(Up::End {
-            number: 1,
-            command: 1,
-            more: false,
+        &came.sent,
+        Some(OnPath {
+            signal: Up::End {
+                number: 1,
+                command: 1,
+                more: false,
+                ..
+            },
             ..
         })
     )

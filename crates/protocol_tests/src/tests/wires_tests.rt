@@ -45,7 +45,7 @@ fn is_first_down(wires: &mut Wires, path: Path, number: u64) -> bool {
     if waits {
         wires.drop_down(path);
     }
-    matches!(first, Some(Down::Select { number: n }) if n == number)
+    matches!(&first, Some(Down::Select { number: n }) if *n == number)
 }
 
 /// The first number whose Select does not come in its turn.
@@ -60,17 +60,18 @@ fn wrong_turn_down(wires: &mut Wires, path: Path) -> Option<u64> {
     wrong
 }
 
+/// Whether there is room for eight signals, each is first in its turn, and none is left.
+fn keep_order(wires: &mut Wires) -> bool {
+    let path = Path::new(7).unwrap();
+    let wrong_room = wrong_room_down(wires, path);
+    let wrong_turn = wrong_turn_down(wires, path);
+    wrong_room == None && wrong_turn == None && wires.front_down(path).is_none()
+}
+
 #[test]
 fn signals_arrive_in_order(rt: HostRuntime) -> Result<(), AllocError> {
-    let mut wires = Wires::new(rt.alloc())?;
-    let path = Path::new(7).unwrap();
-    let wrong_room = wrong_room_down(&mut wires, path);
-    let wrong_turn = wrong_turn_down(&mut wires, path);
-    let empty = wires.front_down(path).is_none();
-    drop(wires);
-    assert!(rt; wrong_room == None, "room for eight");
-    assert!(rt; wrong_turn == None, "each waits, and is first in its turn");
-    assert!(rt; empty);
+    let in_order = keep_order(&mut Wires::new(rt.alloc())?);
+    assert!(rt; in_order);
     Ok(())
 }
 
@@ -91,7 +92,7 @@ fn is_first_up(wires: &mut Wires, path: Path, number: u64) -> bool {
     if waits {
         wires.drop_up(path);
     }
-    matches!(first, Some(Up::Busy { number: n }) if n == number)
+    matches!(&first, Some(Up::Busy { number: n }) if *n == number)
 }
 
 /// Whether there is room for a Busy of this number, behind that of five before it.
@@ -119,11 +120,9 @@ fn wrong_round_up(wires: &mut Wires, path: Path) -> Option<u64> {
 
 #[test]
 fn signals_go_round(rt: HostRuntime) -> Result<(), AllocError> {
-    let mut wires = Wires::new(rt.alloc())?;
     let path = Path::new(3).unwrap();
-    let wrong = wrong_round_up(&mut wires, path);
-    drop(wires);
-    assert!(rt; wrong == None, "room for each, and five before it is first");
+    let wrong = wrong_round_up(&mut Wires::new(rt.alloc())?, path);
+    assert!(rt; wrong == None);
     Ok(())
 }
 
@@ -137,20 +136,29 @@ fn sends_halt(wires: &mut Wires, path: Path) -> bool {
     room
 }
 
-#[test]
-fn signals_are_lost_with_their_path(rt: HostRuntime) -> Result<(), AllocError> {
-    let mut wires = Wires::new(rt.alloc())?;
-    let path = Path::new(0).unwrap();
-    let room_up = sends_up(&mut wires, path, 5);
-    let came_first = is_first_up(&mut wires, path, 5);
-    let none_waits = wires.front_up(path).is_none();
-    let room_again = sends_up(&mut wires, path, 5);
-    let room_down = sends_halt(&mut wires, path);
+/// Whether signals each way are lost with their path.
+fn lose_signals(wires: &mut Wires, path: Path) -> bool {
+    let room_up = sends_up(wires, path, 5);
+    let room_down = sends_halt(wires, path);
     wires.lose(path);
     let up_lost = wires.front_up(path).is_none();
     let down_lost = wires.front_down(path).is_none();
-    drop(wires);
-    assert!(rt; room_up && came_first && none_waits && room_again);
-    assert!(rt; room_down && up_lost && down_lost);
+    room_up && room_down && up_lost && down_lost
+}
+
+/// Whether a signal is sent up and let go, and signals are lost then with their path.
+fn let_go_and_lose(wires: &mut Wires) -> bool {
+    let path = Path::new(0).unwrap();
+    let room = sends_up(wires, path, 5);
+    let came_first = is_first_up(wires, path, 5);
+    let none_waits = wires.front_up(path).is_none();
+    let lost = lose_signals(wires, path);
+    room && came_first && none_waits && lost
+}
+
+#[test]
+fn signals_are_lost_with_their_path(rt: HostRuntime) -> Result<(), AllocError> {
+    let lost = let_go_and_lose(&mut Wires::new(rt.alloc())?);
+    assert!(rt; lost);
     Ok(())
 }
