@@ -67,7 +67,7 @@ impl Write for Short {
 }
 
 /// A reader of the text, ten bytes a call, whose first call is interrupted.
-fn slow(fails_at: u64) -> Slow<'static> {
+fn slow_reader(fails_at: u64) -> Slow<'static> {
     Slow {
         rest: TEXT,
         most: 10,
@@ -78,7 +78,7 @@ fn slow(fails_at: u64) -> Slow<'static> {
 }
 
 /// A writer whose first call is interrupted.
-fn short(alloc: Global, most: usize, fails_at: u64) -> Short {
+fn short_writer(alloc: Global, most: usize, fails_at: u64) -> Short {
     Short {
         text: Vec::new(alloc),
         most,
@@ -116,7 +116,7 @@ fn reads_memory(alloc: Global) -> bool {
 }
 
 fn reads(alloc: Global, fails_at: u64, refusal: Option<NoText>) -> bool {
-    let mut reader = slow(fails_at);
+    let mut reader = slow_reader(fails_at);
     is_text(&read_all(alloc, &mut reader), refusal)
 }
 
@@ -135,7 +135,7 @@ fn written(alloc: Global) -> usize {
 }
 
 fn writes(alloc: Global, most: usize, fails_at: u64, taken: usize) -> bool {
-    let mut writer = short(alloc, most, fails_at);
+    let mut writer = short_writer(alloc, most, fails_at);
     is_written(&mut writer, taken)
 }
 
@@ -156,7 +156,7 @@ fn each_growth_is_refused_in_turn(rt: HostRuntime) {
 
 /// Whether a read where so many growths are granted comes to this, and a refusal can be seen.
 fn reads_in(alloc: Global, left: u64, refusal: Option<NoText>) -> bool {
-    let mut reader = slow(0);
+    let mut reader = slow_reader(0);
     let mut supply = FailingMemory {
         left,
         refused: false,
@@ -180,7 +180,7 @@ fn a_source_shows_that_it_failed(rt: HostRuntime) {
 
 /// Whether what a source gives comes to this, and it shows a failure.
 fn gives(alloc: Global, fails_at: u64, refusal: Option<NoText>) -> bool {
-    let mut source = CheckedReader::new(slow(fails_at));
+    let mut source = CheckedReader::new(slow_reader(fails_at));
     let is_right = is_text(&source.all(alloc), refusal);
     is_right && source.broken == refusal.is_some()
 }
@@ -194,7 +194,7 @@ fn a_sink_shows_that_it_failed(rt: HostRuntime) {
 }
 
 fn puts(alloc: Global, fails_at: u64, taken: usize) -> bool {
-    let mut sink = CheckedWriter::new(short(alloc, 10, fails_at));
+    let mut sink = CheckedWriter::new(short_writer(alloc, 10, fails_at));
     is_put(&mut sink, taken)
 }
 

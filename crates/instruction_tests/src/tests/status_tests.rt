@@ -198,7 +198,6 @@ fn shows_causes_without_start() -> bool {
         tried: 0x1008,
         count: 0,
     };
-    let halt = StatusCause::HaltDone;
     let attention = leaves(
         [0; 3],
         StatusCause::Attention,
@@ -219,8 +218,16 @@ fn shows_causes_without_start() -> bool {
         StatusCause::ClearDone,
         [0x0000_1001, 0, 0],
     );
-    let halted = leaves([0x0000_2200, 0, 0], halt, [0x0000_2001, 0, 0]);
-    let ended = leaves([0x0880_6229, 0x1008, 0], halt, [0x0880_6001, 0x1008, 0]);
+    let halted = leaves(
+        [0x0000_2200, 0, 0],
+        StatusCause::HaltDone,
+        [0x0000_2001, 0, 0],
+    );
+    let ended = leaves(
+        [0x0880_6229, 0x1008, 0],
+        StatusCause::HaltDone,
+        [0x0880_6001, 0x1008, 0],
+    );
     attention && interrupted && suspended && cleared && halted && ended
 }
 
