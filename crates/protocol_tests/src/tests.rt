@@ -9,5 +9,6 @@ mod channel_config_tests;
 mod hold_tests;
 mod path_select_tests;
 mod unit_answers;
+mod unit_calls;
 mod unit_tests;
 mod wires_tests;
