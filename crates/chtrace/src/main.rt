@@ -5,7 +5,6 @@ ghost use Rattle.std.specs.Prelude.{◌≡◌};
 ghost use Rattle.std.specs.Process as process_spec;
 ghost use Rattle.chtrace.specs.Outcomes as outcome_spec;
 
-mod gathered;
 mod outcome;
 mod views;
 

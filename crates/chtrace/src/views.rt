@@ -1,6 +1,5 @@
 //! The views, each from standard input to standard output.
 
-use crate::gathered::Gathered;
 use crate::outcome::Outcome;
 use line_reasons::printing::put_reasons;
 use line_reasons::whole::bad_lines;
@@ -9,6 +8,7 @@ use record_rows::put_records;
 use std::io::{self, Printer, Write};
 use step_records::record::{Fact, Record};
 use step_records::trace::Trace;
+use streams::gathered::Gathered;
 use streams::{CheckedReader, CheckedWriter, NoText, Sink, Source};
 use trace_driver::put_driver;
 use trace_explain::put_explained;

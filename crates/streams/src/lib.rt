@@ -2,6 +2,8 @@
 //! Of a reader or a writer no clause can say that it failed; of a `Source` or a `Sink` it can.
 #![tactic(auto)]
 
+pub mod gathered;
+
 ghost use Rattle.streams.specs.Sinks.{Puts};
 ghost use Rattle.streams.specs.declared.NoText.TheVariants as no_text;
 ghost use Rattle.std.specs.Prelude.{Err, true, ◌≡◌, ◌≤◌, ◌++◌, false, take, length, IfOk, OnOk, IfSome, IfNone};

@@ -6,7 +6,7 @@ use Rattle.std.specs.List.{copy_within}
 use Rattle.std.specs.Prelude.{Option}
 use Rattle.std.specs.Io.KnownBytes.{Appends, Keeps}
 use Rattle.std.proofs.KnownBytes.{append_known-moved}
-use Rattle.chtrace.specs.Gathering.{held}
+use Rattle.streams.specs.Gathering.{held}
 use lib.Seq.{paste}
 
 stays : (room new : List ℕ) (taken count : ℕ) → taken ≤ count → count ≤ length room → new ≡ copy_within room taken count 0

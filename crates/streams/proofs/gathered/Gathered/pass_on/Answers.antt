@@ -1,6 +1,6 @@
 use Rattle.std.proofs.Common.{◌≤◌, ◌-◌, arith, rules, length}
-use Rattle.chtrace.proofs.Gathering.{passed_on}
-use Rattle.chtrace.proofs.gathered.Gathered.pass_on.Goals as goal
+use Rattle.streams.proofs.Gathering.{passed_on}
+use Rattle.streams.proofs.gathered.Gathered.pass_on.Goals as goal
 
 pub returns-clause-kept : goal.returns-clause-kept
 returns-clause-kept g c =

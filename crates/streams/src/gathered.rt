@@ -3,10 +3,10 @@
 ghost use Rattle.std.specs.Prelude.{◌≡◌, ◌≤◌, ◌<◌, ◌+◌, [], true, false, take, length};
 ghost use Rattle.std.specs.Io.KnownBytes.{Keeps};
 ghost use Rattle.streams.specs.Sinks.{Puts, TakesText};
-ghost use Rattle.chtrace.specs.Gathering.{held, seen_of};
+ghost use Rattle.streams.specs.Gathering.{held, seen_of};
 
+use crate::{Sink, put_all};
 use std::io::Write;
-use streams::{Sink, put_all};
 
 /// How many bytes are gathered at most.
 const ROOM: usize = 8192;
@@ -109,7 +109,7 @@ impl<W: Write + Drop> Gathered<W> {
 }
 
 impl<W: Write + Drop> Sink for Gathered<W> {
-    ghost use Rattle.chtrace.specs.Gathering.{seen_of};
+    ghost use Rattle.streams.specs.Gathering.{seen_of};
 
     ghost seen = { λ g. seen_of (W.contents g.writer) g.length g.room g.failed };
 
