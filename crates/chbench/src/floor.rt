@@ -89,8 +89,16 @@ pub fn cleared_of(serials: Option<Serials>) -> u64 {
 /// Whether a reply has no more bytes than two signals may have. Each reply that is a value is looked at in this way, from a call
 /// that is not built in, so that what is counted is what one pays who reads it.
 #[inline(never)]
-pub fn is_whole(reply: &Reply) -> bool {
+fn is_whole(reply: &Reply) -> bool {
     bytes_of(reply) <= 2 * CHUNK_BYTES
+}
+
+/// Whether an event was accepted; the reply to it is looked at.
+pub fn is_answered<E>(outcome: &Result<Reply, E>) -> bool {
+    match outcome {
+        Ok(reply) => is_whole(reply),
+        Err(_) => false,
+    }
 }
 
 /// How many bytes a reply has.
@@ -126,10 +134,7 @@ impl Answering {
 
 impl Floor for Answering {
     fn accepts(&mut self, event: &Event) -> bool {
-        match &self.subsystem.step(event) {
-            Ok(reply) => is_whole(reply),
-            Err(_) => false,
-        }
+        is_answered(&self.subsystem.step(event))
     }
 
     fn reports(&mut self, unit: u32, device: &mut AnyDevice) -> bool {
@@ -139,10 +144,7 @@ impl Floor for Answering {
         if !self.report.write(&turn, unit, device) {
             return false;
         }
-        match &self.subsystem.step(&self.report.event) {
-            Ok(reply) => is_whole(reply),
-            Err(_) => false,
-        }
+        is_answered(&self.subsystem.step(&self.report.event))
     }
 
     fn accepted(&self) -> u64 {
@@ -254,10 +256,7 @@ pub struct Seated<J: MachineBrand> {
 
 impl<J: MachineBrand> Floor for Seated<J> {
     fn accepts(&mut self, event: &Event) -> bool {
-        match &self.guarded.enter(&mut self.seat, event) {
-            Ok(reply) => is_whole(reply),
-            Err(_) => false,
-        }
+        is_answered(&self.guarded.enter(&mut self.seat, event))
     }
 
     fn reports(&mut self, unit: u32, device: &mut AnyDevice) -> bool {
@@ -267,10 +266,7 @@ impl<J: MachineBrand> Floor for Seated<J> {
         if !self.report.write(&turn, unit, device) {
             return false;
         }
-        match &self.guarded.enter(&mut self.seat, &self.report.event) {
-            Ok(reply) => is_whole(reply),
-            Err(_) => false,
-        }
+        is_answered(&self.guarded.enter(&mut self.seat, &self.report.event))
     }
 
     fn accepted(&self) -> u64 {

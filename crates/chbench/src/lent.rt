@@ -1,6 +1,6 @@
 //! A channel subsystem that keeps no history, on storage that is lent to it.
 
-use crate::floor::{Floor, ReportSlot, cleared_of, is_there, is_whole};
+use crate::floor::{Floor, ReportSlot, cleared_of, is_answered, is_there};
 use chan_events::event::Event;
 use channel_subsystem::hosted::ChannelSubsystem;
 use device_models::any_device::AnyDevice;
@@ -138,10 +138,7 @@ impl<'a> LentAnswering<'a> {
 impl Floor for LentAnswering<'_> {
     fn accepts(&mut self, event: &Event) -> bool {
         let floor = &mut self.performing;
-        let accepted = match &floor.subsystem.step(&mut floor.storage, event) {
-            Ok(reply) => is_whole(reply),
-            Err(_) => false,
-        };
+        let accepted = is_answered(&floor.subsystem.step(&mut floor.storage, event));
         floor.count(accepted)
     }
 
@@ -150,13 +147,10 @@ impl Floor for LentAnswering<'_> {
         if !floor.writes_report(unit, device) {
             return false;
         }
-        let accepted = match &floor
+        let outcome = floor
             .subsystem
-            .step(&mut floor.storage, floor.report.event())
-        {
-            Ok(reply) => is_whole(reply),
-            Err(_) => false,
-        };
+            .step(&mut floor.storage, floor.report.event());
+        let accepted = is_answered(&outcome);
         floor.count(accepted)
     }
 
