@@ -1,8 +1,8 @@
 -- Status words in the few words of the view of a program (SA22-7832, chapter 16).
 use Rattle.std.specs.Prelude.{ℕ, ◌==◌, ◌*◌, List, [], ◌++◌, codes, if◌then◌else◌}
 use Rattle.zbits.specs.Bits.{field_of}
-use Rattle.word_names.specs.Parts.{names_text}
-use Rattle.word_names.specs.ScswNames.{functions, activity, status_names, device, subchannel}
+use Rattle.word_parts.specs.Parts.{names_text}
+use Rattle.word_parts.specs.ScswNames.{functions, activity, status_names, device, subchannel}
 use Rattle.record_text.specs.Numbers.{hexadecimal}
 
 -- function control

@@ -3,8 +3,8 @@
 ghost use Rattle.std.specs.Prelude.{◌≡◌, ◌*◌, ◌++◌, codes};
 ghost use Rattle.streams.specs.Sinks.{Puts};
 ghost use Rattle.zbits.specs.Bits.{field_of};
-ghost use Rattle.word_names.specs.Parts.{names_text};
-ghost use Rattle.word_names.specs.ScswNames as scsw;
+ghost use Rattle.word_parts.specs.Parts.{names_text};
+ghost use Rattle.word_parts.specs.ScswNames as scsw;
 ghost use Rattle.trace_driver.specs.SeenWords as spec;
 
 use record_text::fields::put_two;

@@ -6,9 +6,10 @@ use crate::block::{Block, IRB_WORDS, SCHIB_WORDS};
 use streams::Sink;
 use word_names::{
     put_activity, put_ccw_0, put_ccw_1, put_command_address, put_count, put_crw, put_device_status,
-    put_extended, put_functions, put_hex, put_interruption_code, put_orb, put_pmcw,
-    put_scsw_control, put_status_control, put_subchannel_status,
+    put_extended, put_functions, put_interruption_code, put_orb, put_pmcw, put_scsw_control,
+    put_status_control, put_subchannel_status,
 };
+use word_parts::number::put_hex;
 
 /// How many words of a subchannel-information block the path-management-control word is.
 const PMCW_WORDS: usize = 7;

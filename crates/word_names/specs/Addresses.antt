@@ -1,7 +1,7 @@
 -- What the CCW address of a subchannel-status word says (SA22-7832, chapter 16).
 use Rattle.std.specs.Prelude.{ℕ, ◌-◌, ◌==◌, ◌&&◌, ◌||◌, not, List, ◌++◌, codes, if◌then◌else◌}
 use Rattle.zbits.specs.Flags.{flag_of}
-use Rattle.word_names.specs.Numbers.{hex_text}
+use Rattle.word_parts.specs.Numbers.{hex_text}
 use Rattle.word_names.specs.declared.address.AddressMeaning.{AddressMeaning}
 use Rattle.word_names.specs.declared.address.AddressMeaning.TheVariants.{Nothing, Begins, Unfetched, Past}
 

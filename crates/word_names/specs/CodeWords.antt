@@ -3,9 +3,9 @@ use Rattle.std.specs.Prelude.{ℕ, ◌*◌, ◌==◌, ◌&&◌, ◌||◌, not, B
 use Rattle.zbits.specs.Flags.{flag_of}
 use Rattle.chan_model.specs.declared.answer.ConditionCode.{ConditionCode}
 use Rattle.chan_model.specs.declared.answer.ConditionCode.TheVariants.{Zero, One, Two, Three}
-use Rattle.word_names.specs.Numbers.{hex_text}
-use Rattle.word_names.specs.Parts.{Named, flag, names_text}
-use Rattle.word_names.specs.ScswNames.{status_control}
+use Rattle.word_parts.specs.Numbers.{hex_text}
+use Rattle.word_parts.specs.Parts.{Named, flag, names_text}
+use Rattle.word_parts.specs.ScswNames.{status_control}
 use Rattle.word_names.specs.declared.instruction.Found.{Found}
 use Rattle.word_names.specs.declared.instruction.Instruction.{Instruction}
 use Rattle.word_names.specs.declared.instruction.Instruction.TheVariants.{Start, Resume, Halt, Clear, Cancel, Modify, Store, Test, TestPending, ResetPath, StoreReport}

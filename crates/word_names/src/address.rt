@@ -4,8 +4,8 @@ ghost use Rattle.std.specs.Prelude.{◌≡◌, ◌-◌};
 ghost use Rattle.streams.specs.Sinks.{Puts};
 ghost use Rattle.word_names.specs.Addresses as spec;
 
-use crate::number::put_hex_after;
 use streams::Sink;
+use word_parts::number::put_hex_after;
 use zbits::flag;
 
 /// How much further than the channel-command word that was tried last the address of a status is.

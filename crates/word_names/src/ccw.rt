@@ -2,16 +2,16 @@
 
 ghost use Rattle.std.specs.Prelude.{◌≡◌, ◌*◌, codes, map, true};
 ghost use Rattle.streams.specs.Sinks.{Puts};
-ghost use Rattle.word_names.specs.Parts.{listed, part_of, texts_of};
-ghost use Rattle.word_names.specs.CcwNames as spec;
+ghost use Rattle.word_parts.specs.Parts.{listed, part_of, texts_of};
+ghost use Rattle.word_parts.specs.CcwNames as spec;
 
-use crate::listing::{bits, flag, put_parts};
-use crate::number::{put_hex, put_hex_after, put_hex_between};
-use crate::part::{Part, Shown};
 use ccw_codec::Class;
 use ccw_codec::command::class;
 use channel_config::parts::UnitKind;
 use streams::Sink;
+use word_parts::listing::{bits, flag, put_parts};
+use word_parts::number::{put_hex, put_hex_after, put_hex_between};
+use word_parts::part::{Part, Shown};
 use zbits::field;
 
 /// What the byte of flags is worth at the left end of a word.

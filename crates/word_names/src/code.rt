@@ -2,13 +2,13 @@
 
 ghost use Rattle.std.specs.Prelude.{◌≡◌, codes, map};
 ghost use Rattle.streams.specs.Sinks.{Puts};
-ghost use Rattle.word_names.specs.Parts.{names_text, part_of};
-ghost use Rattle.word_names.specs.CodeNames as spec;
+ghost use Rattle.word_parts.specs.Parts.{names_text, part_of};
+ghost use Rattle.word_parts.specs.CodeNames as spec;
 
-use crate::listing::{bits, flag, put_names};
-use crate::number::put_hex_pair;
-use crate::part::{Part, Shown};
 use streams::Sink;
+use word_parts::listing::{bits, flag, put_names};
+use word_parts::number::put_hex_pair;
+use word_parts::part::{Part, Shown};
 use zbits::field;
 
 /// The subsystem-identification word, where it is none that names a subchannel.

@@ -2,15 +2,15 @@
 
 ghost use Rattle.std.specs.Prelude.{◌≡◌, ◌*◌, ◌++◌, codes, map};
 ghost use Rattle.streams.specs.Sinks.{Puts};
-ghost use Rattle.word_names.specs.Parts.{names_text, part_of};
+ghost use Rattle.word_parts.specs.Parts.{names_text, part_of};
 ghost use Rattle.word_names.specs.CodeWords as spec;
 
-use crate::listing::{flag, put_names};
-use crate::number::{put_hex_after, put_hex_between};
-use crate::part::Part;
 use crate::scsw::put_status_control;
 use chan_model::answer::ConditionCode;
 use streams::Sink;
+use word_parts::listing::{flag, put_names};
+use word_parts::number::{put_hex_after, put_hex_between};
+use word_parts::part::Part;
 use zbits::flag as bit;
 
 /// An I/O instruction.

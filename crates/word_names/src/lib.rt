@@ -6,12 +6,7 @@ mod address;
 mod ccw;
 mod code;
 mod instruction;
-pub mod law;
-mod listing;
-mod number;
 mod orb;
-pub mod part;
-mod paths;
 mod report;
 mod schib;
 mod scsw;
@@ -20,10 +15,7 @@ pub use address::{AddressMeaning, address_meaning, put_address, put_command_addr
 pub use ccw::{put_ccw_0, put_ccw_1, put_ccw_flags, put_command_class, put_command_name};
 pub use code::put_interruption_code;
 pub use instruction::{Found, Instruction, put_code_words};
-pub use listing::put_names;
-pub use number::put_hex;
 pub use orb::put_orb;
-pub use paths::put_paths;
 pub use report::put_crw;
 pub use schib::{put_extended, put_pmcw};
 pub use scsw::{

@@ -3,12 +3,12 @@
 
 ghost use Rattle.std.specs.Prelude.{◌≡◌, codes, map};
 ghost use Rattle.streams.specs.Sinks.{Puts};
-ghost use Rattle.word_names.specs.Parts.{names_text, part_of};
-ghost use Rattle.word_names.specs.SchibNames as spec;
+ghost use Rattle.word_parts.specs.Parts.{names_text, part_of};
+ghost use Rattle.word_parts.specs.SchibNames as spec;
 
-use crate::listing::{bits, flag, put_names};
-use crate::part::{Part, Shown};
 use streams::Sink;
+use word_parts::listing::{bits, flag, put_names};
+use word_parts::part::{Part, Shown};
 
 fn parameter_parts() -> [Part<'static>; 1]
     ensures { map part_of result ≡ spec.word_0 }

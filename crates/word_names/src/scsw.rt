@@ -2,12 +2,12 @@
 
 ghost use Rattle.std.specs.Prelude.{◌≡◌, ◌+◌, ◌*◌, codes, false, map};
 ghost use Rattle.streams.specs.Sinks.{Puts};
-ghost use Rattle.word_names.specs.Parts.{listed, names_text, part_of, texts_of};
-ghost use Rattle.word_names.specs.ScswNames as spec;
+ghost use Rattle.word_parts.specs.Parts.{listed, names_text, part_of, texts_of};
+ghost use Rattle.word_parts.specs.ScswNames as spec;
 
-use crate::listing::{bits, flag, put_names, put_parts};
-use crate::part::{Part, Shown};
 use streams::Sink;
+use word_parts::listing::{bits, flag, put_names, put_parts};
+use word_parts::part::{Part, Shown};
 
 /// What a device status is worth in word 2.
 const DEVICE: u32 = 0x100_0000;

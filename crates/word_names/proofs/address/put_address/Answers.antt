@@ -1,9 +1,9 @@
 use Rattle.std.proofs.Common.{ap, sym, ◌∙◌, ◌++◌, ℕ}
 use Rattle.std.specs.Prelude.{codes}
-use Rattle.word_names.specs.Numbers.{hex_text}
+use Rattle.word_parts.specs.Numbers.{hex_text}
 use Rattle.word_names.specs.Addresses as spec
 use Rattle.word_names.specs.declared.address.AddressMeaning.{AddressMeaning}
-use Rattle.word_names.proofs.Growing.{text_as}
+use Rattle.word_parts.proofs.Growing.{text_as}
 use Rattle.word_names.proofs.address.put_address.Goals as goal
 
 pub returns-in-Nothing : goal.returns-in-Nothing

@@ -1,7 +1,7 @@
 use Rattle.std.proofs.Common.{ap, sym, ◌∙◌, List, ℕ}
 use Rattle.channel_config.specs.declared.parts.UnitKind.{UnitKind}
-use Rattle.word_names.specs.CcwNames as spec
-use Rattle.word_names.proofs.Growing.{text_as}
+use Rattle.word_parts.specs.CcwNames as spec
+use Rattle.word_parts.proofs.Growing.{text_as}
 use Rattle.word_names.proofs.ccw.put_command_name.Goals as goal
 
 pub returns-in-Block : goal.returns-in-Block

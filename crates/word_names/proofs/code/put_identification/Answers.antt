@@ -1,8 +1,8 @@
 use Rattle.std.proofs.Common.{sym, ◌∙◌}
 use Rattle.std.specs.Prelude.{codes}
-use Rattle.word_names.specs.Parts.{names_text}
-use Rattle.word_names.specs.CodeNames as spec
-use Rattle.word_names.proofs.Growing.{chosen, left}
+use Rattle.word_parts.specs.Parts.{names_text}
+use Rattle.word_parts.specs.CodeNames as spec
+use Rattle.word_parts.proofs.Growing.{chosen, left}
 use Rattle.word_names.proofs.code.put_identification.Goals as goal
 
 pub returns-then-names_subchannel : goal.returns-then-names_subchannel

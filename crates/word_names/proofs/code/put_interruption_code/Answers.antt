@@ -1,6 +1,6 @@
 use Rattle.std.proofs.Common.{ap, sym, ℕ}
-use Rattle.word_names.specs.CodeNames as spec
-use Rattle.word_names.proofs.Growing.{text_as}
+use Rattle.word_parts.specs.CodeNames as spec
+use Rattle.word_parts.proofs.Growing.{text_as}
 use Rattle.word_names.proofs.code.put_interruption_code.Goals as goal
 
 pub returns-in-1 : goal.returns-in-1

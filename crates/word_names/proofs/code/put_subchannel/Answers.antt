@@ -1,8 +1,8 @@
 use Rattle.std.proofs.Common.{ap, ◌∙◌, ◌++◌, ℕ}
 use Rattle.std.specs.Prelude.{codes}
 use Rattle.zbits.specs.Bits.{field_of}
-use Rattle.word_names.specs.Numbers.{hex_text}
-use Rattle.word_names.proofs.Growing.{text_as}
+use Rattle.word_parts.specs.Numbers.{hex_text}
+use Rattle.word_parts.proofs.Growing.{text_as}
 use Rattle.word_names.proofs.code.put_subchannel.Goals as goal
 
 pub returns : goal.returns

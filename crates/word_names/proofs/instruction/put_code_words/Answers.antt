@@ -1,7 +1,7 @@
 use Rattle.std.proofs.Common.{ap, sym, ◌∙◌, ℕ}
 use Rattle.chan_model.specs.declared.answer.ConditionCode.{ConditionCode}
 use Rattle.word_names.specs.CodeWords as spec
-use Rattle.word_names.proofs.Growing.{text_as}
+use Rattle.word_parts.proofs.Growing.{text_as}
 use Rattle.word_names.proofs.instruction.put_code_words.Goals as goal
 
 pub returns-in-One : goal.returns-in-One

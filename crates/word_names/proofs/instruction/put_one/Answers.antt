@@ -1,6 +1,6 @@
 use Rattle.std.proofs.Common.{sym, ◌∙◌}
 use Rattle.word_names.specs.CodeWords as spec
-use Rattle.word_names.proofs.Growing.{chosen, left}
+use Rattle.word_parts.proofs.Growing.{chosen, left}
 use Rattle.word_names.proofs.instruction.put_one.Goals as goal
 
 pub returns-then-tests_state : goal.returns-then-tests_state

@@ -1,7 +1,7 @@
 use Rattle.std.proofs.Common.{ap, ◌++◌, List, ℕ}
 use Rattle.std.specs.Prelude.{codes}
-use Rattle.word_names.specs.Numbers.{hex_text}
-use Rattle.word_names.proofs.Growing.{text_as}
+use Rattle.word_parts.specs.Numbers.{hex_text}
+use Rattle.word_parts.proofs.Growing.{text_as}
 use Rattle.word_names.proofs.instruction.put_operand.Goals as goal
 
 pub returns : goal.returns

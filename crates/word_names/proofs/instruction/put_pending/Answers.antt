@@ -2,7 +2,7 @@ use Rattle.std.proofs.Common.{◌++◌}
 use Rattle.std.specs.Prelude.{codes}
 use Rattle.streams.proofs.Sinking.{takes_then}
 use Rattle.word_names.specs.CodeWords as spec
-use Rattle.word_names.proofs.Growing.{failed_so}
+use Rattle.word_parts.proofs.Growing.{failed_so}
 use Rattle.word_names.proofs.instruction.put_pending.Goals as goal
 
 pub returns-then-put_opened_status : goal.returns-then-put_opened_status

@@ -1,6 +1,6 @@
 use Rattle.std.proofs.Common.{sym, ◌∙◌}
 use Rattle.word_names.specs.CodeWords as spec
-use Rattle.word_names.proofs.Growing.{chosen, left, text_as}
+use Rattle.word_parts.proofs.Growing.{chosen, left, text_as}
 use Rattle.word_names.proofs.instruction.put_stored.Goals as goal
 
 pub returns-then-is_assigned : goal.returns-then-is_assigned

@@ -1,6 +1,6 @@
 use Rattle.std.proofs.Common.{ap, sym, ◌∙◌, List, ℕ}
 use Rattle.word_names.specs.CodeWords as spec
-use Rattle.word_names.proofs.Growing.{chosen, left, text_as}
+use Rattle.word_parts.proofs.Growing.{chosen, left, text_as}
 use Rattle.word_names.proofs.instruction.put_two.Goals as goal
 
 pub returns-then-tests_state : goal.returns-then-tests_state

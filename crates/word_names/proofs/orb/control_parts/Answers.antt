@@ -1,5 +1,5 @@
 use Rattle.std.proofs.Common.{refl}
-use Rattle.word_names.proofs.Growing.{row}
+use Rattle.word_parts.proofs.Growing.{row}
 use Rattle.word_names.proofs.orb.control_parts.Goals as goal
 
 pub returns : goal.returns

@@ -1,8 +1,8 @@
 use Rattle.std.specs.Prelude.{codes}
 use Rattle.streams.proofs.Sinking.{takes_then}
-use Rattle.word_names.specs.Parts.{names_text}
-use Rattle.word_names.specs.OrbNames as spec
-use Rattle.word_names.proofs.Growing.{failed_so}
+use Rattle.word_parts.specs.Parts.{names_text}
+use Rattle.word_parts.specs.OrbNames as spec
+use Rattle.word_parts.proofs.Growing.{failed_so}
 use Rattle.word_names.proofs.orb.put_rest.Goals as goal
 
 pub returns-then-put_control : goal.returns-then-put_control

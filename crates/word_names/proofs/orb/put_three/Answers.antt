@@ -1,6 +1,6 @@
 use Rattle.streams.proofs.Sinking.{takes_then}
-use Rattle.word_names.specs.OrbNames as spec
-use Rattle.word_names.proofs.Growing.{failed_so}
+use Rattle.word_parts.specs.OrbNames as spec
+use Rattle.word_parts.proofs.Growing.{failed_so}
 use Rattle.word_names.proofs.orb.put_three.Goals as goal
 
 pub returns-then-put_parameter : goal.returns-then-put_parameter

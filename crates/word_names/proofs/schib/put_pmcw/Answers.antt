@@ -1,8 +1,8 @@
 use Rattle.std.proofs.Common.{ap, sym, ◌∙◌, List}
 use Rattle.std.specs.Prelude.{codes}
-use Rattle.word_names.specs.Parts.{Named, names_text}
-use Rattle.word_names.specs.SchibNames as spec
-use Rattle.word_names.proofs.Growing.{text_as}
+use Rattle.word_parts.specs.Parts.{Named, names_text}
+use Rattle.word_parts.specs.SchibNames as spec
+use Rattle.word_parts.proofs.Growing.{text_as}
 use Rattle.word_names.proofs.schib.put_pmcw.Goals as goal
 
 pub returns-in-1 : goal.returns-in-1

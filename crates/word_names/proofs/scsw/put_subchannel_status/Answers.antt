@@ -1,8 +1,8 @@
 use Rattle.std.proofs.Common.{ap, ◌∙◌, ◌*◌, List, ℕ}
 use Rattle.std.specs.Prelude.{codes}
-use Rattle.word_names.specs.Parts.{Named, names_text}
-use Rattle.word_names.specs.ScswNames as spec
-use Rattle.word_names.proofs.Growing.{text_as}
+use Rattle.word_parts.specs.Parts.{Named, names_text}
+use Rattle.word_parts.specs.ScswNames as spec
+use Rattle.word_parts.proofs.Growing.{text_as}
 use Rattle.word_names.proofs.scsw.put_subchannel_status.Goals as goal
 
 pub returns : goal.returns

@@ -1,3 +1,0 @@
-mod Back
-mod Fielding
-mod Growing

@@ -1,0 +1,3 @@
+mod Back
+mod Fielding
+pub mod Growing

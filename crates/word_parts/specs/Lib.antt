@@ -1,0 +1,12 @@
+pub mod CcwNames
+pub mod CodeNames
+pub mod FieldNames
+pub mod Meanings
+pub mod Numbers
+pub mod OrbNames
+pub mod Parts
+pub mod Paths
+pub mod Reports
+pub mod SchibNames
+pub mod ScswNames
+pub mod Whole
