@@ -1,6 +1,6 @@
 -- What the facts of a step tell, by kind: what its line came to, the signals that moved, and the holds that changed.
 use Rattle.std.specs.Prelude.{◌≡◌, ℕ, Bool, true, false, ◌||◌, not, List, [], ◌∷◌, ◌++◌, drop, map, take, Result, Option, None, Some}
-use Rattle.std.specs.List.{filter, filter_map}
+use Rattle.std.specs.List.{All, filter, filter_map}
 use Rattle.chan_model.specs.declared.fault.Fault.{Fault}
 use Rattle.script_text.specs.declared.ActionResult.{ActionResult}
 use Rattle.step_records.specs.declared.record.Fact.{Fact}
@@ -64,10 +64,15 @@ told_of line first records = told_behind line (take first records) (drop first r
 abbrev pub nothing_told : ℕ → List Record → Told
 nothing_told line before = record { line = line; before = before; answers = []; moves = []; holds = [] }
 
--- these are the records that stood there before, and behind them facts that tell this
+-- each stands under the number of this line
+abbrev pub AreOfLine : ℕ → List Record → Type 0
+AreOfLine line records = All (λ r. r.line ≡ line) records
+
+-- these are the records that stood there before, and behind them facts of the line that tell this
 pub record AreToldBy (told : Told) (records : List Record) : Type 0 where
   pub facts : List Record
   pub added : records ≡ told.before ++ facts
+  pub of_line : AreOfLine told.line facts
   pub tell : told ≡ told_behind told.line told.before facts
 
 -- one fact more

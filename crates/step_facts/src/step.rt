@@ -65,14 +65,14 @@ pub struct StepFacts {
 }
 
 impl Model for StepFacts {
-    ghost use Rattle.std.specs.Prelude.{◌≤◌, length};
-    ghost use Rattle.step_facts.specs.Told.{Told, told_of};
+    ghost use Rattle.std.specs.Prelude.{◌≤◌, drop, length};
+    ghost use Rattle.step_facts.specs.Told.{AreOfLine, Told, told_of};
 
     ghost Value = { Told };
 
     ghost view = { λ f. told_of f.line f.first f.records.items };
 
-    ghost invariant = { λ f. f.first ≤ length f.records.items };
+    ghost invariant = { λ f. (f.first ≤ length f.records.items) × AreOfLine f.line (drop f.first f.records.items) };
 }
 
 /// The index of the subchannel that an event names; None where it names none.

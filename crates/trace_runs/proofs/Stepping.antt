@@ -2,6 +2,7 @@
 use Rattle.std.proofs.Common.{◌≡◌, ◌∙◌, ◌+◌, ◌-◌, ℕ, suc, Bool, true, false, refl, sym, ap, subst, arith, List, [], ◌∷◌, ◌++◌, append-nil, append_assoc, drop, length}
 use Rattle.std.proofs.Math.Seq.{drop-append_seam}
 use Rattle.std.proofs.lemmas.List.{length-append}
+use Rattle.std.proofs.lemmas.List.Elements.{All-cons, All-nil}
 use Rattle.std.proofs.lemmas.Option.{same_Some}
 use Rattle.std.specs.Prelude.{Result, Ok, Err, Option, None, Some, slice_get}
 use Rattle.chan_events.specs.Events.{Event}
@@ -29,7 +30,7 @@ use Rattle.script_text.specs.Text.{told_of as outcome_told}
 use Rattle.script_text.specs.declared.ActionResult.TheVariants as outcome
 use Rattle.step_facts.specs.Holds.{all_hold_changes}
 use Rattle.step_facts.specs.Moves.{is_told_by_reply, met_of, sent_of}
-use Rattle.step_facts.specs.Told.{AnsweredLine, AreToldBy, Told, answers_of, facts_where, is_hold, is_move, line_record, nothing_told}
+use Rattle.step_facts.specs.Told.{AnsweredLine, AreOfLine, AreToldBy, Told, answers_of, facts_where, is_hold, is_move, line_record, nothing_told}
 use Rattle.step_records.specs.Named.{named_by}
 use Rattle.step_records.specs.declared.parties.Parties.{Parties}
 use Rattle.step_records.specs.declared.record.Fact.{Fact}
@@ -157,31 +158,43 @@ told-behind before middle after line found outcome rest first then =
     ∙ (ap (λ (t : List Record). t ++ rest) (append_assoc before (beginning line found) answer)
     ∙ append_assoc before (first_facts line found outcome) rest))
 
--- what answers nothing and moves no signal
-record IsAside (rest : List Record) : Type 0 where
+-- the first facts of a line are of it
+of_line-found : (line n : ℕ) (o : Option Unwired) (outcome : ActionOutcome) (rest : List Record) → AreOfLine line rest →
+    AreOfLine line (first_facts line (found_at n o) outcome ++ rest)
+of_line-found line n None outcome rest are = All-cons _ _ refl (All-cons _ _ refl are)
+of_line-found line n (Some s) outcome rest are = All-cons _ _ refl (All-cons _ _ refl (All-cons _ _ refl are))
+
+of_line-first : (line : ℕ) (sight : Sight) (sub : Option ℕ) (outcome : ActionOutcome) (rest : List Record) → AreOfLine line rest →
+    AreOfLine line (first_facts line (found_where sight sub) outcome ++ rest)
+of_line-first line sight None outcome rest are = All-cons _ _ refl (All-cons _ _ refl are)
+of_line-first line sight (Some n) outcome rest are = of_line-found line n (slice_get sight.subchannels.items n) outcome rest are
+
+-- what is of a line, answers nothing and moves no signal
+record IsAside (line : ℕ) (rest : List Record) : Type 0 where
+  of_line : AreOfLine line rest
   unanswered : answers_of rest ≡ []
   unmoved : (course : Course) (on : Wire) → signals_on course on rest ≡ []
 
-balanced-aside : (waiting : List WaitingQueues) (rest : List Record) → IsAside rest → IsBalanced waiting rest waiting
-balanced-aside waiting rest aside = λ on.
+balanced-aside : (line : ℕ) (waiting : List WaitingQueues) (rest : List Record) → IsAside line rest → IsBalanced waiting rest waiting
+balanced-aside line waiting rest aside = λ on.
     ap (λ (t : List Signal). waits_on waiting on ++ t) (aside.unmoved Onto on)
     ∙ (append-nil (waits_on waiting on)
     ∙ sym (ap (λ (t : List Signal). t ++ waits_on waiting on) (aside.unmoved Off on)))
 
-none-aside : IsAside []
-none-aside = record { unanswered = refl; unmoved = λ course on. refl }
+none-aside : (line : ℕ) → IsAside line []
+none-aside line = record { of_line = All-nil; unanswered = refl; unmoved = λ course on. refl }
 
-one-aside : (line : ℕ) (refusal : Refusal) → IsAside (line_record line (fact_spec.Refused refusal) ∷ [])
-one-aside line refusal = record { unanswered = refl; unmoved = λ course on. refl }
+one-aside : (line : ℕ) (refusal : Refusal) → IsAside line (line_record line (fact_spec.Refused refusal) ∷ [])
+one-aside line refusal = record { of_line = All-cons _ _ refl All-nil; unanswered = refl; unmoved = λ course on. refl }
 
-reason-aside : (parties : Parties) (machine : Installed) (line : ℕ) (action : Action) (f : Fault) (rest : List Record) → IsReason parties machine line action f rest → IsAside rest
-reason-aside parties machine line action f rest r = subst IsAside (sym r.are) (one-aside line r.refusal)
+reason-aside : (parties : Parties) (machine : Installed) (line : ℕ) (action : Action) (f : Fault) (rest : List Record) → IsReason parties machine line action f rest → IsAside line rest
+reason-aside parties machine line action f rest r = subst (IsAside line) (sym r.are) (one-aside line r.refusal)
 
 -- an action that changes nothing that is seen
 quiet_step : (old new : Traced) (line : ℕ) (action : Action) (outcome : ActionOutcome) (before middle after rest : List Record) →
     PerformsAction old.machine action outcome new.machine → is_quiet outcome ≡ true → new.parties ≡ old.parties → new.sight ≡ old.sight →
     new.waiting ≡ old.waiting → middle ≡ before ++ beginning line (found_where old.sight (instructed old.parties action)) →
-    after ≡ (middle ++ answer_record line outcome ∷ []) ++ rest → IsAside rest →
+    after ≡ (middle ++ answer_record line outcome ∷ []) ++ rest → IsAside line rest →
     ((f : Fault) → outcome ≡ Err f → IsReason old.parties new.machine line action f rest) → IsSeen old → HasStepped old line action before after new
 quiet_step old new line action outcome before middle after rest acts quiet stay same still first then aside reason seen =
     let past = quiet_past old.machine new.machine action outcome quiet acts in
@@ -199,13 +212,14 @@ quiet_step old new line action outcome before middle after rest acts quiet stay 
         shown_after = subst (λ s. Shows s old.parties old.sight) (sym past.0) seen.shown;
         rest = rest;
         begins = refl;
+        of_line = of_line-first line old.sight named outcome rest aside.of_line;
         reason = reason;
         answers = answers-first line old.sight named outcome rest ∙ ap (λ (t : List AnsweredLine). answered_line line outcome ∷ t) aside.unanswered;
         waited = old.waiting;
         waits = old.waiting;
         told_before = seen.told;
         told_after = subst (λ s. TellsWaiting s old.parties.subchannels.items old.waiting) (sym past.0) seen.told;
-        balanced = balanced-first old.waiting old.waiting line old.sight named outcome rest (balanced-aside old.waiting rest aside);
+        balanced = balanced-first old.waiting old.waiting line old.sight named outcome rest (balanced-aside line old.waiting rest aside);
         moves = λ entry grown. absurd (not_longer old.machine.past.history new.machine.past.history entry past.1 grown);
         holds = λ entry grown. absurd (not_longer old.machine.past.history new.machine.past.history entry past.1 grown);
       };
@@ -216,7 +230,7 @@ quiet_step old new line action outcome before middle after rest acts quiet stay 
 stepped_aside : (old new : Traced) (m : Installed) (line : ℕ) (action : Action) (came outcome : ActionOutcome) (named : Option ℕ) (before middle after rest : List Record) →
     PerformsAction old.machine action came m → came ≡ outcome → is_quiet outcome ≡ true → new ≡ record old { machine = m } →
     named ≡ instructed old.parties action → middle ≡ before ++ beginning line (found_where old.sight named) →
-    after ≡ (middle ++ answer_record line outcome ∷ []) ++ rest → IsAside rest →
+    after ≡ (middle ++ answer_record line outcome ∷ []) ++ rest → IsAside line rest →
     ((f : Fault) → outcome ≡ Err f → IsReason old.parties m line action f rest) → IsSeen old → HasStepped old line action before after new
 stepped_aside old new m line action came outcome named before middle after rest acts is quiet kept names first then aside reason seen =
     subst (λ (t : Traced). HasStepped old line action before after t) (sym kept)
@@ -232,7 +246,7 @@ pub stepped_quiet : (old new : Traced) (m : Installed) (line : ℕ) (action : Ac
 stepped_quiet old new m line action came found named before middle after acts is kept names first then seen =
     let looked : ActionOutcome = Ok (outcome.Serials found) in
     stepped_aside old new m line action came looked named before middle after [] acts is refl kept names first
-    (then ∙ sym (append-nil (middle ++ answer_record line looked ∷ []))) none-aside (λ f e. absurd (cc e)) seen
+    (then ∙ sym (append-nil (middle ++ answer_record line looked ∷ []))) (none-aside line) (λ f e. absurd (cc e)) seen
 
 -- the fault of a refusal is one
 abbrev fault-of : Fault → ActionOutcome → Fault
@@ -277,6 +291,7 @@ stepped_told old middle new m line action came named before between after acts i
         shown_after = subst (λ (p : Parties). Shows new.machine.past.state p new.sight) k.parties_stay k.seen.shown;
         rest = k.facts;
         begins = refl;
+        of_line = of_line-first line old.sight asked came_to k.facts k.of_line;
         reason = λ f e. absurd (cc e);
         answers = answers-first line old.sight asked came_to k.facts ∙ ap (λ (t : List AnsweredLine). answered_line line came_to ∷ t) k.none_answered;
         waited = old.waiting;
@@ -339,18 +354,19 @@ seen_next machine parties waits one other is = λ i. record { machine = machine;
 -- the facts were followed on the wires of a machine that stays, and what is seen next is kept
 pub has_told : (old new : Traced) (line : ℕ) (before between after list : List Record) (first : ℕ) (next : Sight) (waits : List WaitingQueues) (e : Event) (r : Reply) (sub : Option ℕ) (start told : Told) →
     IsLastEvent old.machine.past.history e → r ≡ last_reply old.machine.past.history → between ≡ before ++ answer_record line (Ok (outcome.Reply r)) ∷ [] →
-    first ≡ length between → start ≡ nothing_told line between → AreToldBy told after → told.before ≡ start.before → told.answers ≡ start.answers →
+    first ≡ length between → start ≡ nothing_told line between → AreToldBy told after → told.line ≡ start.line → told.before ≡ start.before → told.answers ≡ start.answers →
     sub ≡ named_by old.parties e →
     ((n : ℕ) → sub ≡ Some n → is_told_by_reply e ≡ true → told.moves ≡ start.moves ++ (met_of n e r ++ sent_of old.sight n r)) →
     told.holds ≡ start.holds ++ all_hold_changes old.sight.subchannels.items next.subchannels.items →
     IsBalanced old.waiting list waits → list ≡ drop first after → Shows old.machine.past.state old.parties next →
     TellsWaiting old.machine.past.state old.parties.subchannels.items waits → new ≡ record old { sight = next; waiting = waits } → HasTold old line before after new
-has_told old new line before between after list first next waits e r sub start told own last answered at none are stood answers names moves holds balanced rest shown tells is =
+has_told old new line before between after list first next waits e r sub start told own last answered at none are lined stood answers names moves holds balanced rest shown tells is =
     let facts : List Record = are.facts in
     let behind : after ≡ between ++ facts = are.added ∙ ap (λ (t : List Record). t ++ facts) (stood ∙ ap (λ (t : Told). t.before) none) in
     subst (λ (t : Traced). HasTold old line before after t) (sym is) (record {
       facts = facts;
       added = behind ∙ ap (λ (t : List Record). t ++ facts) (answered ∙ ap (λ (x : Reply). before ++ answer_record line (Ok (outcome.Reply x)) ∷ []) last);
+      of_line = subst (λ (n : ℕ). AreOfLine n facts) (lined ∙ ap (λ (t : Told). t.line) none) are.of_line;
       none_answered = sym (ap (λ (t : Told). t.answers) are.tell) ∙ (answers ∙ ap (λ (t : Told). t.answers) none);
       moves = moved_last old.machine.past.history e r old.parties old.sight facts own last
           (λ n named replied. sym (ap (λ (t : Told). t.moves) are.tell) ∙ (moves n (names ∙ named) replied

@@ -1,5 +1,5 @@
 -- What the records of a script tell of its lines.
-use Rattle.std.specs.Prelude.{◌≡◌, ◌-◌, ⊤, ℕ, true, false, List, [], ◌∷◌, ◌++◌, length, map, slice_get, Ok, Err, Option, None, Some}
+use Rattle.std.specs.Prelude.{◌≡◌, ◌-◌, ◌<◌, ⊤, ℕ, true, false, List, [], ◌∷◌, ◌++◌, length, map, slice_get, Ok, Err, Option, None, Some}
 use Rattle.std.specs.List.{flat_map}
 use Rattle.chan_events.specs.Instructions.{subchannel_word}
 use Rattle.chan_events.specs.Events.{Event}
@@ -8,6 +8,8 @@ use Rattle.chan_events.specs.declared.event.Event.TheVariants as event
 use Rattle.chan_events.specs.declared.reply.Entry.{Entry}
 use Rattle.chan_model.specs.declared.fault.Fault.{Fault}
 use Rattle.channel_config.specs.Setup.{Setup}
+use Rattle.channel_config.specs.declared.parts.SubchannelSetup.{SubchannelSetup}
+use Rattle.machine_model.specs.State.{State}
 use Rattle.machine_sight.specs.Balance.{IsBalanced}
 use Rattle.event_log.specs.Logs.{last_reply}
 use Rattle.machine_sight.specs.Finding.{found_of}
@@ -29,7 +31,7 @@ use Rattle.step_facts.specs.Holds.{all_hold_changes}
 use Rattle.step_facts.specs.Moves.{is_told_by_reply, met_of, sent_of}
 use Rattle.step_records.specs.Named.{index_of, named_by}
 use Rattle.step_records.specs.Refusing.{fault_of}
-use Rattle.step_facts.specs.Told.{AnsweredLine, answers_of, facts_where, is_hold, is_move, line_record}
+use Rattle.step_facts.specs.Told.{AnsweredLine, AreOfLine, answers_of, facts_where, is_hold, is_move, line_record}
 use Rattle.step_records.specs.declared.parties.Parties.{Parties}
 use Rattle.step_records.specs.declared.record.Fact.{Fact}
 use Rattle.step_records.specs.declared.record.Fact.TheVariants as fact
@@ -47,6 +49,10 @@ pub record Traced : Type 0 where
 pub record IsSeen (traced : Traced) : Type 0 where
   pub shown : Shows traced.machine.past.state traced.parties traced.sight
   pub told : TellsWaiting traced.machine.past.state traced.parties.subchannels.items traced.waiting
+
+-- what is told to wait does not wait there, or there are subchannels of whose wires nothing is told
+abbrev pub DoesNotTell : State → List SubchannelSetup → List WaitingQueues → Type 0
+DoesNotTell state subchannels waiting = TellsWaiting state subchannels waiting → length waiting < length subchannels
 
 -- a line, and what it came to
 abbrev pub answered_line : ℕ → ActionOutcome → AnsweredLine
@@ -112,6 +118,7 @@ first_facts line found outcome = beginning line found ++ answer_record line outc
 pub record HasTold (old : Traced) (line : ℕ) (before after : List Record) (new : Traced) : Type 0 where
   pub facts : List Record
   pub added : after ≡ (before ++ answer_record line (Ok (came.Reply (last_reply old.machine.past.history))) ∷ []) ++ facts
+  pub of_line : AreOfLine line facts
   pub none_answered : answers_of facts ≡ []
   pub moves : (entry : Entry) → IsLast old.machine.past.history entry → IsMovedBy old.parties old.sight entry facts
   pub holds : AreHeldBy old.sight new.sight facts
@@ -134,7 +141,7 @@ pub record HasReason (parties : Parties) (machine : Installed) (line : ℕ) (act
   pub added : after ≡ before ++ rest
   pub reason : IsReason parties machine line action refused rest
 
--- the facts of a line: first the line, what its instruction found of the subchannel that it names, and what its action came to, as
+-- the facts of a line, each under its number: first the line, what its instruction found of the subchannel that it names, and what its action came to, as
 -- `chsim run` performs it; then what differs between two looks, of which one shows the machine before it and the other after it. They
 -- account for all that waits on the wires, at the machine before it and after it; where an event was accepted, they tell the signals that
 -- its reply says were met and sent, and the holds that changed; where the line was refused, they tell why.
@@ -147,6 +154,7 @@ pub record IsToldOf (parties : Parties) (old : Installed) (number : ℕ) (action
   pub shown_after : Shows new.past.state parties after
   pub rest : List Record
   pub begins : facts ≡ first_facts number (found_where before (instructed parties action)) outcome ++ rest
+  pub of_line : AreOfLine number facts
   pub reason : (refused : Fault) → outcome ≡ Err refused → IsReason parties new number action refused rest
   pub answers : answers_of facts ≡ answered_line number outcome ∷ []
   pub waited : List WaitingQueues

@@ -1,17 +1,18 @@
 //! A machine whose steps are told: for each action what it came to, and the facts of what it did.
 
-ghost use Rattle.std.specs.Prelude.{◌≡◌, ◌≢◌, ◌≤◌, ◌++◌, ◌∷◌, ℕ, List, [], Ok, Err, IfErr, IfOk, IfSome, IsTrue, ◌↔◌, OnOk, OnErr, drop, length, true};
+ghost use Rattle.std.specs.Prelude.{◌≡◌, ◌≢◌, ◌≤◌, ◌++◌, ◌∷◌, ◌⊎◌, ℕ, List, [], Ok, Err, IfErr, IfOk, IfSome, IsTrue, ◌↔◌, OnOk, OnErr, drop, length, true};
 ghost use Rattle.machine_model.specs.State.{opening_of};
 ghost use Rattle.subsystem.specs.Keeping.{all_serials};
 ghost use Rattle.core_lock.specs.Directory.{directory_of};
 ghost use Rattle.script_rows.specs.Slots.{action_in, action_length};
 ghost use Rattle.script_runner.specs.Acting.{IsAudited, IsOpening};
 ghost use Rattle.chan_model.specs.declared.fault.Fault.TheVariants as refusal_spec;
-ghost use Rattle.machine_sight.specs.Balance.{IsBalanced};
+ghost use Rattle.std.specs.Bool.{OnFalse};
+ghost use Rattle.machine_sight.specs.Balance.{IsBalanced, IsStuck};
 ghost use Rattle.machine_sight.specs.Shown.{Shows, TellsWaiting};
 ghost use Rattle.trace_runs.specs.Faults.{IsFaultAt, fault_told};
 ghost use Rattle.trace_runs.specs.Tracing as spec;
-ghost use Rattle.trace_runs.specs.Tracing.{AreOf, HasReason, HasStepped, HasTold, IsLast, IsLastEvent, IsLastOf, IsSeen};
+ghost use Rattle.trace_runs.specs.Tracing.{AreOf, DoesNotTell, HasReason, HasStepped, HasTold, IsLast, IsLastEvent, IsLastOf, IsSeen};
 ghost use Rattle.trace_runs.specs.declared.tracer.Stepped.TheVariants as stepped_spec;
 
 use crate::TraceFault;
@@ -125,6 +126,8 @@ fn follow<S: Supply, L: Looks>(
     requires { first ≤ length records.now }
     ensures balanced { IfOk result (λ followed. IsTrue followed → IsBalanced waiting.old (drop first records.now) waiting.new) }
     ensures told { IfOk result (λ followed. IsTrue followed → TellsWaiting (L.state looks.now) parties.now.subchannels.items waiting.new) }
+    ensures stuck { IfOk result (λ followed. OnFalse followed (IsStuck waiting.old (drop first records.now) waiting.new
+        ⊎ DoesNotTell (L.state looks.now) parties.now.subchannels.items waiting.new)) }
     ensures unrefused { OnOk result (S.refused supply.new ≡ S.refused supply.old) }
     ensures memory { OnErr result (S.refused supply.new ≡ true) }
 {

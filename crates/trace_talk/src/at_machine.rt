@@ -33,6 +33,19 @@ pub(crate) struct Partner<J: MachineBrand> {
     pub(crate) stepping: Stepping<J>,
 }
 
+impl<J: MachineBrand> Partner<J> {
+    /// Performs one line that is due for a subchannel and its unit, and answers which; None where none is.
+    fn perform_due_for<M: CoreSupply>(
+        &mut self,
+        supply: &mut M,
+        subchannel: u32,
+    ) -> Result<Option<DueLine>, TraceFault> {
+        let due = self.stepping.due_for(supply, subchannel)?;
+        let number = self.count.saturating_add(1);
+        self.stepping.perform_due(supply, number, due.as_slice())
+    }
+}
+
 /// What a line came to, as a script's run prints it behind the number of the line.
 fn put_outcome_of<S: Sink>(sink: &mut S, records: &[Record]) -> bool {
     for record in records {
@@ -76,16 +89,39 @@ impl<R: BufRead + Drop, S: Sink> Talk<'_, R, S> {
     ) -> Result<Turn, TraceFault> {
         self.act(supply, partner, came, first)?;
         let mut line = Vec::new(self.alloc);
+        self.hear_all(supply, partner, &mut line)
+    }
+
+    /// Takes lines until one is taken back or no line comes any more; each is written into a list.
+    fn hear_all<J: MachineBrand, M: CoreSupply>(
+        &mut self,
+        supply: &mut M,
+        partner: &mut Partner<J>,
+        line: &mut Vec<u8>,
+    ) -> Result<Turn, TraceFault> {
         for _ in 0..u64::MAX {
-            let came = self.input.next(&mut line)?;
-            if self.is_over(came) {
-                break;
-            }
-            if let Heard::Back = self.hear(supply, partner, came, line.as_slice())? {
-                return Ok(Turn::Back);
+            if let Some(turn) = self.hear_next(supply, partner, line)? {
+                return Ok(turn);
             }
         }
         Ok(Turn::Ended)
+    }
+
+    /// Takes the next line: how the talk ends by it, where it does.
+    fn hear_next<J: MachineBrand, M: CoreSupply>(
+        &mut self,
+        supply: &mut M,
+        partner: &mut Partner<J>,
+        line: &mut Vec<u8>,
+    ) -> Result<Option<Turn>, TraceFault> {
+        let came = self.input.next(line)?;
+        if self.is_over(came) {
+            return Ok(Some(Turn::Ended));
+        }
+        match self.hear(supply, partner, came, line.as_slice())? {
+            Heard::Back => Ok(Some(Turn::Back)),
+            Heard::Answered | Heard::Acts => Ok(None),
+        }
     }
 
     /// Takes a line at the machine.
@@ -202,21 +238,29 @@ impl<R: BufRead + Drop, S: Sink> Talk<'_, R, S> {
             return self.refuse(b"no such subchannel");
         }
         for count in 0..most {
-            let due = partner.stepping.due_for(supply, subchannel)?;
-            let number = partner.count.saturating_add(1);
-            match partner
-                .stepping
-                .perform_due(supply, number, due.as_slice())?
-            {
-                Some(line) => self.keep_due(partner, line)?,
-                None => {
-                    self.tell_count(b"quiet ", count);
-                    return Ok(Heard::Answered);
-                }
+            if !self.turn_once(supply, partner, subchannel)? {
+                self.tell_count(b"quiet ", count);
+                return Ok(Heard::Answered);
             }
         }
         self.tell_count(b"moved ", most);
         Ok(Heard::Answered)
+    }
+
+    /// Performs one line that is due for a subchannel and its unit; false where none is.
+    fn turn_once<J: MachineBrand, M: CoreSupply>(
+        &mut self,
+        supply: &mut M,
+        partner: &mut Partner<J>,
+        subchannel: u32,
+    ) -> Result<bool, TraceFault> {
+        match partner.perform_due_for(supply, subchannel)? {
+            Some(line) => {
+                self.keep_due(partner, line)?;
+                Ok(true)
+            }
+            None => Ok(false),
+        }
     }
 
     /// Keeps a line that was due and was performed.

@@ -32,7 +32,16 @@ pub(crate) fn said_by<S: Supply>(
     }
     let mut words = Vec::new(alloc);
     TextLine::first(line).words_to(supply, &mut words)?;
-    let [first, others @ ..] = words.as_slice() else {
+    said_in(alloc, supply, words.as_slice())
+}
+
+/// What these words of a good line say.
+fn said_in<S: Supply>(
+    alloc: Global,
+    supply: &mut S,
+    words: &[&[u8]],
+) -> Result<Spoken, TraceFault> {
+    let [first, others @ ..] = words else {
         return Ok(Spoken::Nothing);
     };
     match setting_row(alloc, supply, first, others) {
@@ -51,8 +60,13 @@ pub(crate) fn action_of<S: Supply>(
 ) -> Result<bool, TraceFault> {
     let mut words = Vec::new(alloc);
     TextLine::first(line).words_to(supply, &mut words)?;
-    let [first, others @ ..] = words.as_slice() else {
-        return Ok(false);
+    Ok(is_action(words.as_slice(), slot))
+}
+
+/// Whether these words ask for an action, which is written into a slot.
+fn is_action(words: &[&[u8]], slot: &mut ActionSlot) -> bool {
+    let [first, others @ ..] = words else {
+        return false;
     };
-    Ok(matches!(action_row(slot, first, others), Ok(true)))
+    matches!(action_row(slot, first, others), Ok(true))
 }

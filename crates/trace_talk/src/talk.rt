@@ -67,6 +67,15 @@ pub(crate) struct Talk<'s, R: BufRead + Drop, S: Sink> {
     pub(crate) talked: Talked,
 }
 
+/// How lines end that set up.
+#[derive(Clone, Copy)]
+enum SettingUp {
+    /// The talk, or this part of it, is over.
+    Ends(Turn),
+    /// A line acts, which came so.
+    Acts(Came),
+}
+
 /// What lines have set up so far.
 #[derive(Drop)]
 struct SetUp {
@@ -127,18 +136,44 @@ impl<R: BufRead + Drop, S: Sink> Talk<'_, R, S> {
             count: 0,
         };
         let mut line = Vec::new(self.alloc);
+        match self.set_up_all(supply, &mut set_up, &mut line) {
+            Ok(SettingUp::Acts(came)) => self.open(supply, set_up, came, line.as_slice()),
+            Ok(SettingUp::Ends(turn)) => Ok(turn),
+            Err(fault) => Err(fault),
+        }
+    }
+
+    /// Takes lines before the machine is there, until one acts; each is written into a list.
+    fn set_up_all<M: CoreSupply>(
+        &mut self,
+        supply: &mut M,
+        set_up: &mut SetUp,
+        line: &mut Vec<u8>,
+    ) -> Result<SettingUp, TraceFault> {
         for _ in 0..u64::MAX {
-            let came = self.input.next(&mut line)?;
-            if self.is_over(came) {
-                break;
-            }
-            match self.set_up_by(supply, &mut set_up, came, line.as_slice())? {
-                Heard::Answered => {}
-                Heard::Back => return Ok(Turn::Back),
-                Heard::Acts => return self.open(supply, set_up, came, line.as_slice()),
+            if let Some(ends) = self.set_up_next(supply, set_up, line)? {
+                return Ok(ends);
             }
         }
-        Ok(Turn::Ended)
+        Ok(SettingUp::Ends(Turn::Ended))
+    }
+
+    /// Takes the next of them: how they end by it, where they do.
+    fn set_up_next<M: CoreSupply>(
+        &mut self,
+        supply: &mut M,
+        set_up: &mut SetUp,
+        line: &mut Vec<u8>,
+    ) -> Result<Option<SettingUp>, TraceFault> {
+        let came = self.input.next(line)?;
+        if self.is_over(came) {
+            return Ok(Some(SettingUp::Ends(Turn::Ended)));
+        }
+        match self.set_up_by(supply, set_up, came, line.as_slice())? {
+            Heard::Answered => Ok(None),
+            Heard::Back => Ok(Some(SettingUp::Ends(Turn::Back))),
+            Heard::Acts => Ok(Some(SettingUp::Acts(came))),
+        }
     }
 
     /// Takes a line before the machine is there.
@@ -268,38 +303,27 @@ impl<R: BufRead + Drop, S: Sink> Talk<'_, R, S> {
         came: Came,
         line: &[u8],
     ) -> Result<Turn, TraceFault> {
-        let SetUp {
-            checker,
-            config,
-            count,
-        } = set_up;
-        let parts = Parts::new_with(self.alloc, supply, &config)?;
-        let opened = Opened {
-            checker,
-            config,
-            parts,
-            count,
-        };
-        self.open_named::<Brand, M>(supply, opened, came, line)
+        let parts = Parts::new_with(self.alloc, supply, &set_up.config)?;
+        self.open_named::<Brand, M>(supply, set_up, parts, came, line)
     }
 
     /// Talks with a machine of this name.
     fn open_named<J: MachineBrand, M: CoreSupply>(
         &mut self,
         supply: &mut M,
-        opened: Opened,
+        opened: SetUp,
+        parts: Parts,
         came: Came,
         line: &[u8],
     ) -> Result<Turn, TraceFault>
-        requires named { opened.parts.name ≡ J.name }
+        requires named { parts.name ≡ J.name }
         requires set_up { J.setup ≡ opened.config }
-        requires directory { opened.parts.name.directory ≡ directory_of (opening_of opened.config) }
-        requires serials { opened.parts.serials ≡ all_serials (opening_of opened.config) }
+        requires directory { parts.name.directory ≡ directory_of (opening_of opened.config) }
+        requires serials { parts.serials ≡ all_serials (opening_of opened.config) }
     {
-        let Opened {
+        let SetUp {
             checker,
             config,
-            parts,
             count,
         } = opened;
         let tracer = Tracer::<J>::new(self.alloc, supply, config, parts)?;
@@ -310,13 +334,4 @@ impl<R: BufRead + Drop, S: Sink> Talk<'_, R, S> {
         };
         self.talk_with(supply, &mut partner, came, line)
     }
-}
-
-/// A machine that is to be opened, and what was said so far.
-#[derive(Drop)]
-struct Opened {
-    checker: Checker,
-    config: Config,
-    parts: Parts,
-    count: u64,
 }

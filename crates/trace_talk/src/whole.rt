@@ -5,6 +5,7 @@ ghost use Rattle.core_lock.specs.Directory.{directory_of};
 ghost use Rattle.machine_model.specs.State.{opening_of};
 ghost use Rattle.subsystem.specs.Keeping.{all_serials};
 
+use crate::due::DueLine;
 use crate::stepping::Stepping;
 use channel_config::config::Config;
 use core_lock::naming::MachineBrand;
@@ -105,8 +106,7 @@ fn put_due<J: MachineBrand, M: Supply, S: Sink>(
     sink: &mut S,
 ) -> Result<bool, TraceFault> {
     for _ in 0..most {
-        let lines = stepping.due(supply)?;
-        let Some(line) = stepping.perform_due(supply, 0, lines.as_slice())? else {
+        let Some(line) = perform_one(stepping, supply)? else {
             return Ok(true);
         };
         if !(line.put(sink) && sink.put(b"\n")) {
@@ -114,4 +114,13 @@ fn put_due<J: MachineBrand, M: Supply, S: Sink>(
         }
     }
     Ok(true)
+}
+
+/// Performs one line that is due, and answers which; None where none is.
+fn perform_one<J: MachineBrand, M: Supply>(
+    stepping: &mut Stepping<J>,
+    supply: &mut M,
+) -> Result<Option<DueLine>, TraceFault> {
+    let lines = stepping.due(supply)?;
+    stepping.perform_due(supply, 0, lines.as_slice())
 }

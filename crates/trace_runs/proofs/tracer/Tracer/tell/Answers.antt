@@ -12,7 +12,7 @@ returns-clause-told g c =
     (subst (λ (t : Traced). IsLastEvent t.machine.past.history c.args.event.now) (sym c.self.view_is) c.requires.last)
     c.in-Some.ensures.reply c.in_ok-add_reply.ensures.added (search rules)
     (c.behind-facts.ensures ∙ ap (λ v. nothing_told c.args.line v.items) c.replace.ensures.value)
-    c.into_records.ensures c.in_default-added.ensures.before c.in_default-added.ensures.answers c.named_by.ensures
+    c.into_records.ensures c.in_default-added.ensures.line c.in_default-added.ensures.before c.in_default-added.ensures.answers c.named_by.ensures
     c.in_default-added.ensures.moves c.in_default-added.ensures.holds
     (c.in_ok-followed.ensures.balanced (search rules)) (search rules)
     (subst (λ s. Shows s c.self.inside.parties c.look.new.self) c.subsystem.ensures.state c.in_default.ensures.shown)
