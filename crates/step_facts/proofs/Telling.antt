@@ -11,7 +11,7 @@ use Rattle.step_records.specs.declared.record.Wire.{Wire}
 use Rattle.step_records.specs.declared.record.Moved.{Moved}
 use Rattle.step_records.specs.declared.record.Signal.{Signal}
 use Rattle.chan_model.specs.declared.hold_state.HoldState.{HoldState}
-use Rattle.step_facts.specs.Told.{AnsweredLine, AreOfLine, AreToldBy, Told, answered_by, facts_where, is_hold, is_move, is_other, nothing_told, only, told_behind, told_of, told_with, with_holds, with_moves}
+use Rattle.step_facts.specs.Told.{AnsweredLine, AreOfLine, AreToldBy, IsOfLine, Told, answered_by, facts_where, is_hold, is_move, is_other, nothing_told, only, told_behind, told_of, told_with, with_holds, with_moves}
 
 facts-push : (is : Fact → Bool) (rs : List Record) (r : Record) → facts_where is (rs ++ r ∷ []) ≡ facts_where is rs ++ only is r.fact
 facts-push is rs r = ap (filter is) (map-append (λ (x : Record). x.fact) rs (r ∷ [])) ∙ filter-append is (map (λ (x : Record). x.fact) rs) (r.fact ∷ [])
@@ -47,13 +47,13 @@ are_told line first rs of_line = record { facts = drop first rs; added = sym (ta
 
 -- each fact is of the line
 pub of_line-none : (line : ℕ) (rs : List Record) → AreOfLine line (drop (length rs) rs)
-of_line-none line rs = All-same (drop (length rs) rs) [] (drop_of_length-le rs (omega arith)) All-nil
+of_line-none line rs = All-same (IsOfLine line) (drop (length rs) rs) [] (drop_of_length-le rs (omega arith)) (All-nil (IsOfLine line))
 
 pub of_line-more : (line first : ℕ) (rs : List Record) (f : Fact) → first ≤ length rs → AreOfLine line (drop first rs) →
     AreOfLine line (drop first (rs ++ record { line = line; fact = f } ∷ []))
 of_line-more line first rs f le are =
     let r : Record = record { line = line; fact = f } in
-    All-same (drop first (rs ++ r ∷ [])) (drop first rs ++ r ∷ []) (drop-append-le first rs (r ∷ []) le) (All-push (drop first rs) r are refl)
+    All-same (IsOfLine line) (drop first (rs ++ r ∷ [])) (drop first rs ++ r ∷ []) (drop-append-le first rs (r ∷ []) le) (All-push (IsOfLine line) (drop first rs) r are refl)
 
 -- a fact of no kind tells nothing
 pub told_quiet : (told : Told) (f : Fact) → is_other f ≡ true → told_with told f ≡ told

@@ -65,8 +65,11 @@ abbrev pub nothing_told : ℕ → List Record → Told
 nothing_told line before = record { line = line; before = before; answers = []; moves = []; holds = [] }
 
 -- each stands under the number of this line
+abbrev pub IsOfLine : ℕ → Record → Type 0
+IsOfLine line r = r.line ≡ line
+
 abbrev pub AreOfLine : ℕ → List Record → Type 0
-AreOfLine line records = All (λ r. r.line ≡ line) records
+AreOfLine line records = All (IsOfLine line) records
 
 -- these are the records that stood there before, and behind them facts of the line that tell this
 pub record AreToldBy (told : Told) (records : List Record) : Type 0 where

@@ -30,7 +30,7 @@ use Rattle.script_text.specs.Text.{told_of as outcome_told}
 use Rattle.script_text.specs.declared.ActionResult.TheVariants as outcome
 use Rattle.step_facts.specs.Holds.{all_hold_changes}
 use Rattle.step_facts.specs.Moves.{is_told_by_reply, met_of, sent_of}
-use Rattle.step_facts.specs.Told.{AnsweredLine, AreOfLine, AreToldBy, Told, answers_of, facts_where, is_hold, is_move, line_record, nothing_told}
+use Rattle.step_facts.specs.Told.{AnsweredLine, AreOfLine, AreToldBy, IsOfLine, Told, answers_of, facts_where, is_hold, is_move, line_record, nothing_told}
 use Rattle.step_records.specs.Named.{named_by}
 use Rattle.step_records.specs.declared.parties.Parties.{Parties}
 use Rattle.step_records.specs.declared.record.Fact.{Fact}
@@ -161,12 +161,12 @@ told-behind before middle after line found outcome rest first then =
 -- the first facts of a line are of it
 of_line-found : (line n : ℕ) (o : Option Unwired) (outcome : ActionOutcome) (rest : List Record) → AreOfLine line rest →
     AreOfLine line (first_facts line (found_at n o) outcome ++ rest)
-of_line-found line n None outcome rest are = All-cons _ _ refl (All-cons _ _ refl are)
-of_line-found line n (Some s) outcome rest are = All-cons _ _ refl (All-cons _ _ refl (All-cons _ _ refl are))
+of_line-found line n None outcome rest are = All-cons (IsOfLine line) _ _ refl (All-cons (IsOfLine line) _ _ refl are)
+of_line-found line n (Some s) outcome rest are = All-cons (IsOfLine line) _ _ refl (All-cons (IsOfLine line) _ _ refl (All-cons (IsOfLine line) _ _ refl are))
 
 of_line-first : (line : ℕ) (sight : Sight) (sub : Option ℕ) (outcome : ActionOutcome) (rest : List Record) → AreOfLine line rest →
     AreOfLine line (first_facts line (found_where sight sub) outcome ++ rest)
-of_line-first line sight None outcome rest are = All-cons _ _ refl (All-cons _ _ refl are)
+of_line-first line sight None outcome rest are = All-cons (IsOfLine line) _ _ refl (All-cons (IsOfLine line) _ _ refl are)
 of_line-first line sight (Some n) outcome rest are = of_line-found line n (slice_get sight.subchannels.items n) outcome rest are
 
 -- what is of a line, answers nothing and moves no signal
@@ -182,10 +182,10 @@ balanced-aside line waiting rest aside = λ on.
     ∙ sym (ap (λ (t : List Signal). t ++ waits_on waiting on) (aside.unmoved Off on)))
 
 none-aside : (line : ℕ) → IsAside line []
-none-aside line = record { of_line = All-nil; unanswered = refl; unmoved = λ course on. refl }
+none-aside line = record { of_line = All-nil (IsOfLine line); unanswered = refl; unmoved = λ course on. refl }
 
 one-aside : (line : ℕ) (refusal : Refusal) → IsAside line (line_record line (fact_spec.Refused refusal) ∷ [])
-one-aside line refusal = record { of_line = All-cons _ _ refl All-nil; unanswered = refl; unmoved = λ course on. refl }
+one-aside line refusal = record { of_line = All-cons (IsOfLine line) _ _ refl (All-nil (IsOfLine line)); unanswered = refl; unmoved = λ course on. refl }
 
 reason-aside : (parties : Parties) (machine : Installed) (line : ℕ) (action : Action) (f : Fault) (rest : List Record) → IsReason parties machine line action f rest → IsAside line rest
 reason-aside parties machine line action f rest r = subst (IsAside line) (sym r.are) (one-aside line r.refusal)
