@@ -81,9 +81,11 @@ class Bench:
         self.shared = top / "out/libfiluvamoth.so"
         self.scripts = [
             *sorted((top / "examples").glob("*.chs")),
-            *sorted((top / "crates/example_tests/data/cases").glob("*.chs")),
+            *sorted((top / "tests/cases").glob("*.chs")),
         ]
-        self.lists = sorted((top / "crates/example_tests/data").glob("*.txt"))
+        quoted = folder / "quoted.txt"
+        quoted.write_bytes(subprocess.run([top / "tools/examples", "--quoted"], stdout=subprocess.PIPE, check=True).stdout)
+        self.lists = [quoted, *sorted((top / "tests").glob("*.txt"))]
         self.counts = Counts(self.scripts, self.lists)
         self.values: Optional[int] = None
         self.emulator: Optional[str] = None
@@ -511,7 +513,7 @@ def run_all(bench: Bench, jobs: int, only: Optional[str]) -> int:
 
 def main() -> int:
     parser = argparse.ArgumentParser(prog="tools/host-tests", description="Tests of the library for C, C++ and Python.")
-    parser.add_argument("--from", dest="top", type=Path, default=TOP, help="where out/, crates/ and examples/ are")
+    parser.add_argument("--from", dest="top", type=Path, default=TOP, help="the checkout whose out/ and stored scripts are taken")
     parser.add_argument("--without", action="append", default=[], choices=sorted(TOOLS), help="do without this tool")
     parser.add_argument("--jobs", type=int, default=2, help="how many checks run at once")
     parser.add_argument("--only", help="only the checks whose name has this")

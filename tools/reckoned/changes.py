@@ -1,7 +1,8 @@
 """The first write cut after each of its bytes, and with each byte replaced by others."""
 from reckoned.programs import first_write
 from reckoned.rules import bad_line, number
-from reckoned.scene import Answer, Misreckoned, Script, whole
+from reckoned.scene import Misreckoned
+from scripted.answers import Answer, Script, whole
 
 FIRST_WRITE = first_write()
 TEXT = FIRST_WRITE.text()

@@ -1,6 +1,6 @@
 """Scripts of which there are few: bad lines, a race, paths that are chosen in turn, and a program without end."""
 from reckoned.programs import CLEAR, CLEARED, ENDED, OFFER, OFFERED, RELEASED, START, TURN, down, prepared, up
-from reckoned.scene import Script, whole
+from scripted.answers import Script, whole
 
 BAD = {
     "": "bad line 1 rule 6",

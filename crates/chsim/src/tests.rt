@@ -1,4 +1,4 @@
-//! The program's words, readers and writers that fail, and want of memory. What whole scripts print is compared by `example_tests`,
+//! The program's words, readers and writers that fail, and want of memory. What whole scripts print is compared by `tools/stored`,
 //! which has scripts that are written out, and by `tools/scenes`, which makes scripts line by line.
 
 mod commands;

@@ -57,7 +57,7 @@ fn shown(action: &Action) -> (&[u8], [u32; 4]) {
 }
 
 /// Lines that drive a machine, and what each asks for; all kinds of lines, right and wrong, are in the list of rules that
-/// `example_tests` runs.
+/// `tools/stored` runs.
 const DRIVING: [(&[u8], &[u8], [u32; 4]); 5] = [
     (b"put 500 c1C2", b"put", [0x500, 2, 0xC1, 0xC2]),
     (b"cpu 1 ssch 00001 500", b"ssch", [1, 1, 0x500, 0]),
