@@ -159,15 +159,17 @@ told-behind before middle after line found outcome rest first then =
     ∙ append_assoc before (first_facts line found outcome) rest))
 
 -- the first facts of a line are of it
-of_line-found : (line n : ℕ) (o : Option Unwired) (outcome : ActionOutcome) (rest : List Record) → AreOfLine line rest →
-    AreOfLine line (first_facts line (found_at n o) outcome ++ rest)
-of_line-found line n None outcome rest are = All-cons (IsOfLine line) _ _ refl (All-cons (IsOfLine line) _ _ refl are)
-of_line-found line n (Some s) outcome rest are = All-cons (IsOfLine line) _ _ refl (All-cons (IsOfLine line) _ _ refl (All-cons (IsOfLine line) _ _ refl are))
+of_line-more : (line : ℕ) (f : Fact) (rest : List Record) → AreOfLine line rest → AreOfLine line (line_record line f ∷ rest)
+of_line-more line f rest are = All-cons (IsOfLine line) (line_record line f) rest refl are
 
-of_line-first : (line : ℕ) (sight : Sight) (sub : Option ℕ) (outcome : ActionOutcome) (rest : List Record) → AreOfLine line rest →
-    AreOfLine line (first_facts line (found_where sight sub) outcome ++ rest)
-of_line-first line sight None outcome rest are = All-cons (IsOfLine line) _ _ refl (All-cons (IsOfLine line) _ _ refl are)
-of_line-first line sight (Some n) outcome rest are = of_line-found line n (slice_get sight.subchannels.items n) outcome rest are
+of_line-first : (line : ℕ) (found : Option Fact) (outcome : ActionOutcome) (rest : List Record) → AreOfLine line rest →
+    AreOfLine line (first_facts line found outcome ++ rest)
+of_line-first line None outcome rest are =
+    of_line-more line fact_spec.Event (answer_record line outcome ∷ rest) (of_line-more line (fact_spec.Answer outcome) rest are)
+of_line-first line (Some f) outcome rest are =
+    let then : List Record = answer_record line outcome ∷ rest in
+    of_line-more line fact_spec.Event (line_record line f ∷ then)
+    (of_line-more line f then (of_line-more line (fact_spec.Answer outcome) rest are))
 
 -- what is of a line, answers nothing and moves no signal
 record IsAside (line : ℕ) (rest : List Record) : Type 0 where
@@ -185,7 +187,7 @@ none-aside : (line : ℕ) → IsAside line []
 none-aside line = record { of_line = All-nil (IsOfLine line); unanswered = refl; unmoved = λ course on. refl }
 
 one-aside : (line : ℕ) (refusal : Refusal) → IsAside line (line_record line (fact_spec.Refused refusal) ∷ [])
-one-aside line refusal = record { of_line = All-cons (IsOfLine line) _ _ refl (All-nil (IsOfLine line)); unanswered = refl; unmoved = λ course on. refl }
+one-aside line refusal = record { of_line = of_line-more line (fact_spec.Refused refusal) [] (All-nil (IsOfLine line)); unanswered = refl; unmoved = λ course on. refl }
 
 reason-aside : (parties : Parties) (machine : Installed) (line : ℕ) (action : Action) (f : Fault) (rest : List Record) → IsReason parties machine line action f rest → IsAside line rest
 reason-aside parties machine line action f rest r = subst (IsAside line) (sym r.are) (one-aside line r.refusal)
@@ -212,7 +214,7 @@ quiet_step old new line action outcome before middle after rest acts quiet stay 
         shown_after = subst (λ s. Shows s old.parties old.sight) (sym past.0) seen.shown;
         rest = rest;
         begins = refl;
-        of_line = of_line-first line old.sight named outcome rest aside.of_line;
+        of_line = of_line-first line found outcome rest aside.of_line;
         reason = reason;
         answers = answers-first line old.sight named outcome rest ∙ ap (λ (t : List AnsweredLine). answered_line line outcome ∷ t) aside.unanswered;
         waited = old.waiting;
@@ -291,7 +293,7 @@ stepped_told old middle new m line action came named before between after acts i
         shown_after = subst (λ (p : Parties). Shows new.machine.past.state p new.sight) k.parties_stay k.seen.shown;
         rest = k.facts;
         begins = refl;
-        of_line = of_line-first line old.sight asked came_to k.facts k.of_line;
+        of_line = of_line-first line (found_where old.sight asked) came_to k.facts k.of_line;
         reason = λ f e. absurd (cc e);
         answers = answers-first line old.sight asked came_to k.facts ∙ ap (λ (t : List AnsweredLine). answered_line line came_to ∷ t) k.none_answered;
         waited = old.waiting;
