@@ -6,4 +6,3 @@ mod record_text_tests;
 mod refusal_reasons_tests;
 mod trace_page_tests;
 mod trace_runs_tests;
-mod word_lines_tests;

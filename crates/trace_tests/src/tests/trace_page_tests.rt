@@ -1,4 +1,4 @@
-//! Pages of small scripts.
+//! The page of a small script, for which memory is wanting.
 
 use memory::{Allocator, FailingMemory};
 use std::alloc::Global;
@@ -33,72 +33,6 @@ fn page_of(alloc: Global, trace: &Trace) -> Option<Vec<u8>> {
         Ok(_) => Some(sink.writer),
         Err(_) => None,
     }
-}
-
-/// How often a text stands in a page.
-fn count(page: &[u8], text: &[u8]) -> usize {
-    let mut found = 0usize;
-    for at in 0..page.len() {
-        if page[at..].starts_with(text) {
-            found = found.saturating_add(1);
-        }
-    }
-    found
-}
-
-/// Whether each text stands in a page so often.
-fn has_texts(page: &[u8], texts: &[(&[u8], usize)]) -> bool {
-    for (text, times) in texts {
-        if count(page, text) != *times {
-            return false;
-        }
-    }
-    true
-}
-
-/// Whether each text stands so often in the page of the script.
-fn draws(alloc: Global, texts: &[(&[u8], usize)]) -> Option<bool> {
-    let trace = traced(alloc)?;
-    let page = page_of(alloc, &trace)?;
-    Some(has_texts(page.as_slice(), texts))
-}
-
-#[test]
-fn a_comment_is_shown_and_is_no_markup(rt: HostRuntime) {
-    let texts: [(&[u8], usize); 3] = [
-        // In the title and in the heading.
-        (
-            b"&lt;script&gt;alert(&quot;1 &amp; 2&quot;)&lt;/script&gt;",
-            2,
-        ),
-        (b"<script", 0),
-        (b"<p>the second</p>", 1),
-    ];
-    assert!(rt; draws(rt.alloc(), &texts) == Some(true));
-}
-
-#[test]
-fn a_signal_is_drawn_from_where_it_was_sent(rt: HostRuntime) {
-    let texts: [(&[u8], usize); 4] = [
-        (b"<line class=\"signal lost p0\"", 1),
-        (b"sent in line 11, lost in line 12</title>", 1),
-        (b">Select 1 lost</text>", 1),
-        (b"<td>Select 1</td><td>lost in line 12</td>", 1),
-    ];
-    assert!(rt; draws(rt.alloc(), &texts) == Some(true));
-}
-
-#[test]
-fn each_line_that_acts_has_a_row(rt: HostRuntime) {
-    let texts: [(&[u8], usize); 5] = [
-        // Both lines of put in one.
-        (b"<details id=\"l", 5),
-        (b"href=\"#l", 5),
-        (b"put to line 8</text>", 1),
-        (b"<svg ", 2),
-        (b"</svg>", 2),
-    ];
-    assert!(rt; draws(rt.alloc(), &texts) == Some(true));
 }
 
 #[test]
