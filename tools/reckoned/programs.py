@@ -131,10 +131,10 @@ PAST_STORAGE = Program(
 )
 
 
-def settings(paths):
-    """The lines of configuration of a subchannel with so many paths."""
+def settings(paths, kind="block"):
+    """The lines of configuration of a subchannel with so many paths, whose unit is of this kind."""
     names = [f"1{path}" for path in range(paths)]
-    return ["storage 10", *[f"path {name}" for name in names], "unit 0 block", f"sub 0 0100 0 {' '.join(names)}"]
+    return ["storage 10", *[f"path {name}" for name in names], f"unit 0 {kind}", f"sub 0 0100 0 {' '.join(names)}"]
 
 
 def prepared(paths):

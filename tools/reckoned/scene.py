@@ -13,6 +13,10 @@ class Scene:
     def __init__(self, settings):
         self.lines, self.printed = list(settings), []
 
+    def sets(self, lines):
+        """Lines more, which print nothing."""
+        self.lines += lines
+
     def says(self, line, told, path=0):
         """One line more, and what it prints."""
         self.lines.append(line.format(path))

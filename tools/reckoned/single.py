@@ -1,18 +1,6 @@
-"""Scripts of which there are few: bad lines, a race, paths that are chosen in turn, and a program without end."""
+"""Scripts of which there are few: a race, paths that are chosen in turn, and a program without end."""
 from reckoned.programs import CLEAR, CLEARED, ENDED, OFFER, OFFERED, RELEASED, START, TURN, down, prepared, up
 from scripted.answers import Script, whole
-
-BAD = {
-    "": "bad line 1 rule 6",
-    "storage 10\nssch 0\n": "bad line 2 rule 2",
-    "storage 10\nput 500 C1\nssch 0\n": "bad line 3 rule 2",
-}
-
-
-def bad_lines():
-    """A bad line is told alone, whatever stands before it."""
-    for text, told in BAD.items():
-        yield Script(repr(text), text.encode("ascii"), {word: whole(told) for word in ("run", "check")})
 
 
 def race():

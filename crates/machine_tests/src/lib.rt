@@ -1,4 +1,4 @@
-//! Tests of the whole machine, of scripts and of device models.
+//! Tests of the whole machine, and of scripts and device models where no script shows it.
 #![tactic(auto)]
 
 #[cfg(test)]

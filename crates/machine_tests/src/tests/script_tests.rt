@@ -1,133 +1,145 @@
-//! A right script: its configuration, and its actions under the numbers of their lines.
+//! The room for which reading a script asks, and many lines. What scripts ask for, and in which line and by which rule a text is none,
+//! `tools/scenes` and `example_tests` show.
 
-use channel_config::config::Config;
-use memory::Allocator;
-use script::Script;
-use script::lines::Lines;
-use script_rows::Action;
-use std::alloc::Global;
+use memory::{Allocator, FailingMemory, Supply};
+use script::{Script, ScriptBad};
+use std::alloc::{AllocError, Global};
 
-const RIGHT: &[u8] = b"# a machine\n\
-\n\
-storage 10\n\
-sets 2\n\
+/// A text that sets up storage, and has then this part so many times.
+fn text_of(alloc: Global, count: usize, part: &[u8]) -> Result<Vec<u8>, AllocError> {
+    let mut text = Vec::new(alloc);
+    text.extend_from_slice(b"storage 10\n")?;
+    for _ in 0..count {
+        text.extend_from_slice(part)?;
+    }
+    Ok(text)
+}
+
+/// What the allocator has. It adds up for how many items more than there was room for it was asked.
+#[derive(Drop)]
+struct Adding {
+    asked: usize,
+    refused: bool,
+}
+
+impl Supply for Adding {
+    ghost refused = { λ a. a.refused };
+
+    fn reserve<T>(&mut self, list: &mut Vec<T>, more: usize) -> Result<(), AllocError> {
+        let room = list.capacity() - list.len();
+        self.asked = self.asked.saturating_add(more.saturating_sub(room));
+        let result = list.reserve(more);
+        if result.is_err() {
+            self.refused = true;
+        }
+        result
+    }
+}
+
+/// Every growth that reading meets: of lines, words, numbers, paths, units, subchannels and actions.
+const GROWING: &[u8] = b"storage 10\n\
 path 10\n\
-path fF\n\
+path FF\n\
 unit 0 block\n\
 unit 1 block\n\
-share 1 0\n\
+share 0 1\n\
 sub 0 0100 0 10 FF\n\
-sub 00030000 0101 0 10\n\
-put 500 c1C2\n\
-enable 0 7 1\n\
-cpu f enable 30000 0 0\n\
-ssch 0001 500\n\
-cpu 1 ssch 00001 500\n\
-tsch 0 600\n\
-choose 0\n\
-#\n\
-up 0 1\n\
-down 0 12345678\n\
-dev 3FF\n\
-glance 3\n\
-cpu 1 tpi 80 600\n\
-attn 0 1 1\n\
-restart 0";
+put 500 C1\n\
+glance 0";
 
-/// What an action is: a device's turn or a glance, with its number, or an event.
-fn shown(action: &Action) -> (&[u8], u32) {
-    match action {
-        Action::Dev(unit) => (b"dev", *unit),
-        Action::Glance(subchannel) => (b"glance", *subchannel),
-        Action::Event(_) => (b"event", 0),
-    }
+/// What is wrong where so many growths are given and no more, and of how many was made use; None where one was refused.
+fn read_short(alloc: Global, left: u64) -> (Option<ScriptBad>, Option<u64>) {
+    let mut supply = FailingMemory {
+        left,
+        refused: false,
+    };
+    let bad = Script::read_with(alloc, &mut supply, false, GROWING).err();
+    let used = if supply.refused {
+        None
+    } else {
+        Some(left.wrapping_sub(supply.left))
+    };
+    (bad, used)
 }
 
-/// The actions that the lines ask for, each under the number of its line.
-const WANTED: [(u64, &[u8], u32); 14] = [
-    (12, b"event", 0),
-    (13, b"event", 0),
-    (14, b"event", 0),
-    (15, b"event", 0),
-    (16, b"event", 0),
-    (17, b"event", 0),
-    (18, b"event", 0),
-    (20, b"event", 0),
-    (21, b"event", 0),
-    (22, b"dev", 0x3FF),
-    (23, b"glance", 0x1_0003),
-    (24, b"event", 0),
-    (25, b"event", 0),
-    (26, b"event", 0),
-];
-
-/// Whether the line at an index has this number and asks for this.
-fn asks(lines: &Lines, index: usize, number: u64, name: &[u8], value: u32) -> bool {
-    match lines.get(index) {
-        Some(line) => {
-            let (kind, said) = shown(&line.action);
-            line.number == number && kind == name && said == value
-        }
-        None => false,
-    }
+/// How many actions the text asks for, where no growth is refused.
+fn actions(alloc: Global) -> Option<usize> {
+    let script = Script::read_with(alloc, &mut Allocator { refused: false }, false, GROWING).ok()?;
+    Some(script.lines().len())
 }
 
-/// The first index whose line asks for something else.
-fn first_other(lines: &Lines) -> Option<usize> {
-    for (index, (number, name, value)) in WANTED.into_iter().enumerate() {
-        if !asks(lines, index, number, name, value) {
-            return Some(index);
+/// The first growth whose refusal is not told, or after which the text is not read.
+fn first_untold(alloc: Global, growths: u64) -> Option<u64> {
+    for left in 0..growths {
+        let told = read_short(alloc, left) == (Some(ScriptBad::NoMemory), None);
+        if !told || actions(alloc) != Some(2) {
+            return Some(left);
         }
     }
     None
 }
 
-/// Whether a script has two sets, its lines ask for what is wanted, and no line follows.
-fn is_right(script: &Script) -> bool {
-    let lines = script.lines();
-    let sets = script.config().set_count();
-    let other = first_other(lines);
-    let none = lines.get(WANTED.len()).is_none();
-    sets == 2 && lines.len() == 14 && other == None && none
+#[test]
+fn each_growth_is_refused_in_turn(rt: HostRuntime) {
+    let growths = read_short(rt.alloc(), 1_000).1.unwrap_or(0);
+    let untold = first_untold(rt.alloc(), growths);
+    let with_all = read_short(rt.alloc(), growths);
+    assert!(rt; growths > 20 && untold == None && with_all == (None, Some(growths)));
 }
 
-/// The same of the right script; None where it is not read.
-fn read(alloc: Global) -> Option<bool> {
-    let script = Script::read(alloc, false, RIGHT).ok()?;
-    Some(is_right(&script))
+/// How many actions a script asks for, and the number of the line of the last.
+fn last_of(script: &Script) -> (usize, u64) {
+    let count = script.lines().len();
+    match script.lines().get(count.saturating_sub(1)) {
+        Some(line) => (count, line.number),
+        None => (count, 0),
+    }
+}
+
+/// The same of a text; None where it is not read.
+fn counted(alloc: Global, text: &[u8]) -> Option<(usize, u64)> {
+    let script = Script::read(alloc, false, text).ok()?;
+    Some(last_of(&script))
+}
+
+/// The same of a text of many lines.
+fn read_many(alloc: Global) -> Option<(usize, u64)> {
+    let text = text_of(alloc, 70_000, b"\ndev 0\n").ok()?;
+    counted(alloc, text.as_slice())
 }
 
 #[test]
-fn a_right_script_is_read(rt: HostRuntime) {
-    assert!(rt; read(rt.alloc()) == Some(true));
+fn a_script_of_many_lines_is_read(rt: HostRuntime) {
+    assert!(rt; read_many(rt.alloc()) == Some((70_000, 140_001)));
 }
 
-/// Whether both units share a control unit; None where there is no memory to tell.
-fn shares(alloc: Global, config: &Config) -> Option<bool> {
-    let groups = config
-        .groups_with(alloc, &mut Allocator { refused: false })
-        .ok()?;
-    Some(groups.as_slice() == [1, 1].as_slice())
+/// How many items more than there is room for are asked of what the allocator has as a text is read; None where it is not read.
+fn asked_for(alloc: Global, text: &[u8]) -> Option<usize> {
+    let mut supply = Adding {
+        asked: 0,
+        refused: false,
+    };
+    let bad = Script::read_with(alloc, &mut supply, false, text).err();
+    if bad.is_none() {
+        Some(supply.asked)
+    } else {
+        None
+    }
 }
 
-/// Whether a configuration has its blocks of storage, both channel paths in order, two subchannels and a control unit of two
-/// units, and there are all lines.
-fn are_parts(alloc: Global, config: &Config, lines: &Lines) -> bool {
-    let blocks = config.blocks();
-    let paths = config.paths() == [0x10, 0xFF].as_slice();
-    let subchannels = config.subchannels().len();
-    let shared = shares(alloc, config);
-    blocks == Some(0x10) && paths && subchannels == 2 && shared == Some(true) && lines.len() == 14
+/// A line to eight bytes of a text and one, and how many items were asked for as it was read.
+fn asked_of_many(alloc: Global) -> Option<(usize, usize)> {
+    let text = text_of(alloc, 1_000, b"dev 000\n").ok()?;
+    let lines = text.len() / 8 + 1;
+    Some((lines, asked_for(alloc, text.as_slice()).unwrap_or(0)))
 }
 
-/// The same of the parts of the right script; None where it is not read.
-fn give(alloc: Global) -> Option<bool> {
-    let script = Script::read(alloc, false, RIGHT).ok()?;
-    let (config, lines) = script.into_parts();
-    Some(are_parts(alloc, &config, &lines))
-}
-
+/// Room is asked for once: a line to eight bytes and one; and 16 words for each line in turn.
 #[test]
-fn a_script_gives_its_parts(rt: HostRuntime) {
-    assert!(rt; give(rt.alloc()) == Some(true));
+fn a_script_asks_for_a_line_to_eight_bytes(rt: HostRuntime) {
+    let (lines, asked) = asked_of_many(rt.alloc()).unwrap_or((1, 0));
+    assert!(rt;
+        lines <= asked && asked.saturating_sub(lines) <= 16,
+        "{asked}"
+    );
 }
