@@ -321,17 +321,32 @@ impl<R: BufRead + Drop, S: Sink> Talk<'_, R, S> {
         requires directory { parts.name.directory ≡ directory_of (opening_of opened.config) }
         requires serials { parts.serials ≡ all_serials (opening_of opened.config) }
     {
-        let SetUp {
-            checker,
-            config,
-            count,
-        } = opened;
-        let tracer = Tracer::<J>::new(self.alloc, supply, config, parts)?;
-        let mut partner = Partner {
-            checker,
-            count,
-            stepping: Stepping::new(self.alloc, tracer),
-        };
+        let mut partner = partner_of::<J, M>(self.alloc, supply, opened, parts)?;
         self.talk_with(supply, &mut partner, came, line)
     }
+}
+
+/// A machine of this name that is to be talked with.
+fn partner_of<J: MachineBrand, M: CoreSupply>(
+    alloc: Global,
+    supply: &mut M,
+    opened: SetUp,
+    parts: Parts,
+) -> Result<Partner<J>, TraceFault>
+    requires named { parts.name ≡ J.name }
+    requires set_up { J.setup ≡ opened.config }
+    requires directory { parts.name.directory ≡ directory_of (opening_of opened.config) }
+    requires serials { parts.serials ≡ all_serials (opening_of opened.config) }
+{
+    let SetUp {
+        checker,
+        config,
+        count,
+    } = opened;
+    let tracer = Tracer::<J>::new(alloc, supply, config, parts)?;
+    Ok(Partner {
+        checker,
+        count,
+        stepping: Stepping::new(alloc, tracer),
+    })
 }

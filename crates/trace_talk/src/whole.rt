@@ -75,8 +75,18 @@ fn put_named<J: MachineBrand, M: CoreSupply, S: Sink>(
 {
     let tracer = Tracer::<J>::new(alloc, supply, config, parts)?;
     let mut stepping = Stepping::new(alloc, tracer);
-    let refused = perform(&mut stepping, supply, asked.lines)?;
-    let whole = asked.whole && put_due(&mut stepping, supply, asked.most, sink)?;
+    perform_all(&mut stepping, supply, asked, sink)
+}
+
+/// Performs lines, and writes those that are due after them.
+fn perform_all<J: MachineBrand, M: Supply, S: Sink>(
+    stepping: &mut Stepping<J>,
+    supply: &mut M,
+    asked: &Asked<'_>,
+    sink: &mut S,
+) -> Result<Written, TraceFault> {
+    let refused = perform(stepping, supply, asked.lines)?;
+    let whole = asked.whole && put_due(stepping, supply, asked.most, sink)?;
     Ok(Written { whole, refused })
 }
 
