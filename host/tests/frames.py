@@ -24,6 +24,8 @@ def loaded(tool: Path, library: str) -> ModuleType:
     spec = importlib.util.spec_from_loader("stack", loader)
     assert spec is not None
     module = importlib.util.module_from_spec(spec)
+    # Its own modules stand beside it, where it finds them when it is run.
+    sys.path.insert(0, str(tool.parent))
     words, sys.argv = sys.argv, [str(tool), "--bounds", library]
     try:
         with contextlib.redirect_stdout(io.StringIO()):
