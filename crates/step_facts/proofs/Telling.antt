@@ -1,7 +1,7 @@
 -- What is told where one fact is added.
-use Rattle.std.proofs.Common.{◌≡◌, ◌≤◌, ◌∙◌, refl, sym, ap, arith, ℕ, Bool, true, List, [], ◌∷◌, ◌++◌, drop, drop_of_length-le, length, map, take, append_assoc, Option, Some}
-use Rattle.std.proofs.lemmas.List.{append-nil, drop-append-le, map-append, take-append-drop, take-append-le, take_all}
-use Rattle.std.proofs.lemmas.List.Elements.{All-nil, All-push, All-same, filter-append, filter_map-append}
+use Rattle.std.proofs.Common.{◌≡◌, ◌≤◌, ◌∙◌, refl, ap, ℕ, Bool, true, List, [], ◌∷◌, ◌++◌, drop, length, map, take, append_assoc, Option, Some}
+use Rattle.std.proofs.lemmas.List.{append-nil, drop-append-le, map-append, take-append-le}
+use Rattle.std.proofs.lemmas.List.Elements.{filter-append, filter_map-append}
 use Rattle.std.proofs.lemmas.Option.{same_Some}
 use Rattle.std.specs.List.{filter}
 use Rattle.step_records.specs.declared.record.Fact.{Fact}
@@ -11,7 +11,7 @@ use Rattle.step_records.specs.declared.record.Wire.{Wire}
 use Rattle.step_records.specs.declared.record.Moved.{Moved}
 use Rattle.step_records.specs.declared.record.Signal.{Signal}
 use Rattle.chan_model.specs.declared.hold_state.HoldState.{HoldState}
-use Rattle.step_facts.specs.Told.{AnsweredLine, AreOfLine, AreToldBy, IsOfLine, Told, answered_by, facts_where, is_hold, is_move, is_other, nothing_told, only, told_behind, told_of, told_with, with_holds, with_moves}
+use Rattle.step_facts.specs.Told.{AnsweredLine, Told, answered_by, facts_where, is_hold, is_move, is_other, only, told_behind, told_of, told_with, with_holds, with_moves}
 
 facts-push : (is : Fact → Bool) (rs : List Record) (r : Record) → facts_where is (rs ++ r ∷ []) ≡ facts_where is rs ++ only is r.fact
 facts-push is rs r = ap (filter is) (map-append (λ (x : Record). x.fact) rs (r ∷ [])) ∙ filter-append is (map (λ (x : Record). x.fact) rs) (r.fact ∷ [])
@@ -34,26 +34,6 @@ told_push line first rs f le =
     ap (λ (t : List Record). told_behind line t (drop first (rs ++ r ∷ []))) (take-append-le first rs (r ∷ []) le)
     ∙ (ap (λ (t : List Record). told_behind line (take first rs) t) (drop-append-le first rs (r ∷ []) le)
     ∙ push-behind line (take first rs) (drop first rs) f)
-
--- at the end of a list there are no facts yet
-pub told_none : (line : ℕ) (rs : List Record) → told_of line (length rs) rs ≡ nothing_told line rs
-told_none line rs =
-    ap (λ (t : List Record). told_behind line t (drop (length rs) rs)) (take_all (length rs) rs (omega arith))
-    ∙ ap (λ (t : List Record). told_behind line rs t) (drop_of_length-le rs (omega arith))
-
--- one list is what stood before, and the facts behind it
-pub are_told : (line first : ℕ) (rs : List Record) → AreOfLine line (drop first rs) → AreToldBy (told_of line first rs) rs
-are_told line first rs of_line = record { facts = drop first rs; added = sym (take-append-drop first rs); of_line = of_line; tell = refl }
-
--- each fact is of the line
-pub of_line-none : (line : ℕ) (rs : List Record) → AreOfLine line (drop (length rs) rs)
-of_line-none line rs = All-same (IsOfLine line) (drop (length rs) rs) [] (drop_of_length-le rs (omega arith)) (All-nil (IsOfLine line))
-
-pub of_line-more : (line first : ℕ) (rs : List Record) (f : Fact) → first ≤ length rs → AreOfLine line (drop first rs) →
-    AreOfLine line (drop first (rs ++ record { line = line; fact = f } ∷ []))
-of_line-more line first rs f le are =
-    let r : Record = record { line = line; fact = f } in
-    All-same (IsOfLine line) (drop first (rs ++ r ∷ [])) (drop first rs ++ r ∷ []) (drop-append-le first rs (r ∷ []) le) (All-push (IsOfLine line) (drop first rs) r are refl)
 
 -- a fact of no kind tells nothing
 pub told_quiet : (told : Told) (f : Fact) → is_other f ≡ true → told_with told f ≡ told

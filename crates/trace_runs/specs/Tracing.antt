@@ -141,10 +141,10 @@ pub record HasReason (parties : Parties) (machine : Installed) (line : ℕ) (act
   pub added : after ≡ before ++ rest
   pub reason : IsReason parties machine line action refused rest
 
--- the facts of a line, each under its number: first the line, what its instruction found of the subchannel that it names, and what its action came to, as
--- `chsim run` performs it; then what differs between two looks, of which one shows the machine before it and the other after it. They
--- account for all that waits on the wires, at the machine before it and after it; where an event was accepted, they tell the signals that
--- its reply says were met and sent, and the holds that changed; where the line was refused, they tell why.
+-- the facts of a line, each under its number: first the line, what its instruction found of the subchannel that it names, and what its
+-- action came to, as `chsim run` performs it; then what differs between two looks, of which one shows the machine before it and the other
+-- after it. They account for all that waits on the wires, at the machine before it and after it; where an event was accepted, they tell the
+-- signals that its reply says were met and sent, and the holds that changed; where the line was refused, they tell why.
 pub record IsToldOf (parties : Parties) (old : Installed) (number : ℕ) (action : Action) (facts : List Record) (new : Installed) : Type 0 where
   pub outcome : ActionOutcome
   pub acts : PerformsAction old action outcome new

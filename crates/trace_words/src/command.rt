@@ -23,73 +23,80 @@ fn flag<'a>(alloc: Global, name: &'a str, help: &'a str) -> Arg<'a> {
         .help(help)
 }
 
-/// A command: its name, what it does, and an example of it.
-type Told = (&'static str, &'static str, &'static str);
+/// What is said of a command.
+#[derive(Clone, Copy)]
+struct CommandTexts {
+    name: &'static str,
+    /// What it does.
+    about: &'static str,
+    example: &'static str,
+}
 
 /// The views of a script that was performed.
-const VIEWS: [Told; 6] = [
-    (
-        "explain",
-        "Each line with its answer, what it took and sent, and what changed, in words",
-        "Example: chtrace explain --from 12 --to 16 < examples/lesson-1-one-write.chs",
-    ),
-    (
-        "ladder",
-        "A ladder of the CPU, the subchannel, the wires and the unit",
-        "Example: chtrace ladder --sub 0 < examples/lost-path.chs",
-    ),
-    (
-        "states",
-        "Bits and states over the lines, as a logic analyser draws them",
-        "Example: chtrace states --ascii < examples/lesson-1-one-write.chs",
-    ),
-    (
-        "driver",
-        "Only what a program on a CPU can see",
-        "Example: chtrace driver < examples/lesson-3-poll.chs",
-    ),
-    (
-        "page",
-        "One HTML page with both drawings and each line explained",
-        "Example: chtrace page < examples/lesson-1-one-write.chs > lesson-1.html",
-    ),
-    (
-        "records",
-        "One fact a line, parted by tabs",
-        "Example: chtrace records < examples/lost-path.chs | grep lose",
-    ),
+const VIEWS: [CommandTexts; 6] = [
+    CommandTexts {
+        name: "explain",
+        about: "Each line with its answer, what it took and sent, and what changed, in words",
+        example: "Example: chtrace explain --from 12 --to 16 < examples/lesson-1-one-write.chs",
+    },
+    CommandTexts {
+        name: "ladder",
+        about: "A ladder of the CPU, the subchannel, the wires and the unit",
+        example: "Example: chtrace ladder --sub 0 < examples/lost-path.chs",
+    },
+    CommandTexts {
+        name: "states",
+        about: "Bits and states over the lines, as a logic analyser draws them",
+        example: "Example: chtrace states --ascii < examples/lesson-1-one-write.chs",
+    },
+    CommandTexts {
+        name: "driver",
+        about: "Only what a program on a CPU can see",
+        example: "Example: chtrace driver < examples/lesson-3-poll.chs",
+    },
+    CommandTexts {
+        name: "page",
+        about: "One HTML page with both drawings and each line explained",
+        example: "Example: chtrace page < examples/lesson-1-one-write.chs > lesson-1.html",
+    },
+    CommandTexts {
+        name: "records",
+        about: "One fact a line, parted by tabs",
+        example: "Example: chtrace records < examples/lost-path.chs | grep lose",
+    },
 ];
 
 /// The commands that take no option.
-const PLAIN: [Told; 3] = [
-    (
-        "words",
-        "Words of control blocks by their names, one block a line",
-        "Example: echo 'scsw 00804007 00001008 0C000000' | chtrace words",
-    ),
-    (
-        "check",
-        "Each bad line of a script, with the word and the reason",
-        "Example: chtrace check < examples/bad-line.chs",
-    ),
-    (
-        "talk",
-        "Performs each line as it is read, and answers it",
-        "Example: (cat examples/lesson-3-poll.chs; echo '?') | chtrace talk",
-    ),
+const PLAIN: [CommandTexts; 3] = [
+    CommandTexts {
+        name: "words",
+        about: "Words of control blocks by their names, one block a line",
+        example: "Example: echo 'scsw 00804007 00001008 0C000000' | chtrace words",
+    },
+    CommandTexts {
+        name: "check",
+        about: "Each bad line of a script, with the word and the reason",
+        example: "Example: chtrace check < examples/bad-line.chs",
+    },
+    CommandTexts {
+        name: "talk",
+        about: "Performs each line as it is read, and answers it",
+        example: "Example: (cat examples/lesson-3-poll.chs; echo '?') | chtrace talk",
+    },
 ];
 
 /// The command that takes how many lines are wanted at most.
-const DUE: Told = (
-    "due",
-    "The script, and after it the lines that are due until nothing is",
-    "Example: chtrace due 100 < examples/lesson-1-one-write.chs | chsim run",
-);
+const DUE: CommandTexts = CommandTexts {
+    name: "due",
+    about: "The script, and after it the lines that are due until nothing is",
+    example: "Example: chtrace due 100 < examples/lesson-1-one-write.chs | chsim run",
+};
 
 /// A command without its options.
-fn told<'a>(alloc: Global, row: &Told) -> Command<'a> {
-    let (name, about, example) = *row;
-    Command::new(alloc, name).about(about).after_help(example)
+fn plain<'a>(alloc: Global, texts: &CommandTexts) -> Command<'a> {
+    Command::new(alloc, texts.name)
+        .about(texts.about)
+        .after_help(texts.example)
 }
 
 /// The subchannels that are shown.
@@ -102,8 +109,8 @@ fn subchannels<'a>(alloc: Global) -> Arg<'a> {
 }
 
 /// A view, with the options of all such views.
-fn view<'a>(alloc: Global, row: &Told) -> Result<Command<'a>, AllocError> {
-    told(alloc, row)
+fn view<'a>(alloc: Global, texts: &CommandTexts) -> Result<Command<'a>, AllocError> {
+    plain(alloc, texts)
         .arg(line_option(alloc, "from", "Only lines from this one on"))?
         .arg(line_option(alloc, "to", "Only lines up to this one"))?
         .arg(subchannels(alloc))?
@@ -119,24 +126,24 @@ fn due<'a>(alloc: Global) -> Result<Command<'a>, AllocError> {
         .required(true)
         .value_parser(value_parser!(u64))
         .help("At most so many lines");
-    told(alloc, &DUE).arg(most)
+    plain(alloc, &DUE).arg(most)
 }
 
 /// A command with a view more.
 fn with_view<'a>(
     alloc: Global,
     command: Command<'a>,
-    row: &Told,
+    texts: &CommandTexts,
 ) -> Result<Command<'a>, AllocError> {
-    let more = view(alloc, row)?;
+    let more = view(alloc, texts)?;
     command.subcommand(more)
 }
 
 /// A command with all views of a script that was performed.
 fn with_views<'a>(alloc: Global, command: Command<'a>) -> Result<Command<'a>, AllocError> {
     let mut command = command;
-    for row in &VIEWS {
-        command = with_view(alloc, command, row)?;
+    for texts in &VIEWS {
+        command = with_view(alloc, command, texts)?;
     }
     Ok(command)
 }
@@ -144,8 +151,8 @@ fn with_views<'a>(alloc: Global, command: Command<'a>) -> Result<Command<'a>, Al
 /// A command with those that take no option.
 fn with_plain<'a>(alloc: Global, command: Command<'a>) -> Result<Command<'a>, AllocError> {
     let mut command = command;
-    for row in &PLAIN {
-        command = command.subcommand(told(alloc, row))?;
+    for texts in &PLAIN {
+        command = command.subcommand(plain(alloc, texts))?;
     }
     Ok(command)
 }
