@@ -3,7 +3,7 @@
 ghost use Rattle.std.specs.Prelude.{◌≡◌};
 ghost use Rattle.machine_model.specs.State.{opening_of};
 ghost use Rattle.subsystem.specs.Keeping.{all_serials};
-ghost use Rattle.core_lock.specs.Directory.{directory_of};
+ghost use Rattle.glance_directory.specs.Directory.{directory_of};
 
 use crate::bench::{Bench, Count, config_of};
 use crate::cycle::Kind;

@@ -4,9 +4,10 @@ use Rattle.glance_cell.specs.Shown.{Words}
 use Rattle.machine_model.specs.State.{Past}
 use Rattle.subsystem.specs.Keeping.{StaysSetUp, all_serials}
 use Rattle.channel_config.specs.Setup.{Setup}
-use Rattle.core_lock.specs.Directory.{Directory}
+use Rattle.glance_directory.specs.Directory.{Directory}
 use Rattle.core_lock.specs.Keeping.{IsGuarded}
-use Rattle.core_lock.specs.Named.{MachineName, cells_of, shown}
+use Rattle.glance_directory.specs.Cells.{cells_of, shown}
+use Rattle.core_lock.specs.Named.{MachineName}
 
 pub stays_guarded : (past new : Past) (by more : List ℕ) (counted count : ℕ) (writers news : List Words) (held : Directory) (setup : Setup) (name : MachineName)
     → IsGuarded past by counted writers held setup name

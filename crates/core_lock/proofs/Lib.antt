@@ -1,8 +1,4 @@
-pub mod Finding
-pub mod Rewriting
-pub mod Changing
 pub mod Auditing
-pub mod Directories
 pub mod Entered
 pub mod Growing
 pub mod Raising

@@ -10,11 +10,12 @@ use Rattle.subchannel_model.specs.Indices.{sub_at}
 use Rattle.machine_model.specs.State.{State, serials_in, sub_of}
 use Rattle.subsystem.specs.Keeping.{all_serials}
 use Rattle.glance_cell.specs.Shown.{Words}
-use Rattle.core_lock.specs.Directory.{Directory, directory_of, index_named}
-use Rattle.core_lock.specs.Named.{cell_of, cells_of, counts_of, shown}
-use Rattle.core_lock.specs.Seats.{Seated, greater}
+use Rattle.glance_directory.specs.Directory.{Directory, directory_of, index_named}
+use Rattle.glance_directory.specs.Cells.{cell_of, cells_of, counts_of, shown}
+use Rattle.glance_directory.specs.Raising.{greater}
+use Rattle.core_lock.specs.Seats.{Seated}
 use Rattle.core_lock.specs.Entering.{LoadsAt, Looks}
-use Rattle.core_lock.proofs.Directories.{index_is}
+use Rattle.glance_directory.proofs.Directories.{index_is}
 
 -- a reader and the writer of one index are of one cell
 pub cell_at : (readers writers : List Words) (index : ℕ) (reader writer : Words) → cells_of readers ≡ cells_of writers → slice_get readers index ≡ Some reader →

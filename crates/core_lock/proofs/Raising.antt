@@ -11,8 +11,8 @@ use Rattle.chan_events.specs.declared.event.Instruction.TheVariants as instructi
 use Rattle.chan_events.specs.Replies.{Reply}
 use Rattle.run_laws.specs.CodeSteps.{answer_in}
 use Rattle.subsystem.specs.Keeping.{BringsOrdered, IsOrdered, serials_brought}
-use Rattle.core_lock.specs.Directory.{Directory, index_named}
-use Rattle.core_lock.specs.Seats.{greater, raised_among, raised_at, raised_by}
+use Rattle.glance_directory.specs.Directory.{Directory, index_named}
+use Rattle.glance_directory.specs.Raising.{greater, raised_among, raised_at, raised_by}
 
 pub get_ordered : (seen_serials : List Serials) (k : ℕ) (s : Serials) → All IsOrdered seen_serials → IsOrdered s → IsOrdered (get_or seen_serials k s)
 get_ordered [] k s all one = one

@@ -13,9 +13,10 @@ use Rattle.machine_model.specs.Steps.{Step, IsRefused}
 use Rattle.path_select.specs.Choice.{Rule}
 use Rattle.core_lock.specs.declared.executing.CpuInstruction.{CpuInstruction}
 use Rattle.core_lock.specs.declared.executing.CpuInstruction.TheVariants as cpu_instruction
-use Rattle.core_lock.specs.Directory.{index_named}
-use Rattle.core_lock.specs.Named.{counts_of}
-use Rattle.core_lock.specs.Seats.{Guarded, GuardedCore, HeldSeat, LockedCore, Seated, entry, greater, raised}
+use Rattle.glance_directory.specs.Directory.{index_named}
+use Rattle.glance_directory.specs.Cells.{counts_of}
+use Rattle.glance_directory.specs.Raising.{greater}
+use Rattle.core_lock.specs.Seats.{Guarded, GuardedCore, HeldSeat, LockedCore, Seated, entry, raised}
 
 -- a seat after an event that it entered: its log has the entry
 abbrev pub entered : Seated → Event → Reply → Seated

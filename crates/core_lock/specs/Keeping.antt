@@ -8,8 +8,9 @@ use Rattle.glance_cell.specs.Shown.{Words}
 use Rattle.machine_model.specs.State.{Past}
 use Rattle.machine_model.specs.Setups.{IsSetUp}
 use Rattle.subsystem.specs.Keeping.{IsOrdered, all_serials}
-use Rattle.core_lock.specs.Directory.{Directory, directory_by}
-use Rattle.core_lock.specs.Named.{MachineName, cells_of, shown}
+use Rattle.glance_directory.specs.Directory.{Directory, directory_by}
+use Rattle.glance_directory.specs.Cells.{cells_of, shown}
+use Rattle.core_lock.specs.Named.{MachineName}
 
 -- how many parts of a ledger, and how much of what it counts, a share has
 pub record Part : Type 0 where

@@ -1,8 +1,5 @@
-pub mod Directory
 pub mod Named
 pub mod Seats
-pub mod Touching
-pub mod PathTurns
 pub mod Entering
 pub mod Turns
 pub mod Keeping

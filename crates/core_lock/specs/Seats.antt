@@ -1,21 +1,17 @@
 -- What contracts see of a locked machine and of its seats (own).
-use Rattle.std.specs.Prelude.{ℕ, ◌==◌, max, List, [], ◌∷◌, Option, None, Some, slice_index_or, slice_set, if◌then◌else◌}
+use Rattle.std.specs.Prelude.{ℕ, ◌==◌, List, [], ◌∷◌, Option, if◌then◌else◌}
 use Rattle.scsw_irb.specs.declared.serials.Serials.{Serials}
 use Rattle.chan_events.specs.Events.{Event}
-use Rattle.chan_events.specs.declared.event.Event.TheVariants as event
-use Rattle.chan_events.specs.declared.event.Instruction.TheVariants as instruction
 use Rattle.chan_events.specs.declared.reply.Entry.{Entry}
 use Rattle.chan_events.specs.Replies.{Reply}
 use Rattle.channel_config.specs.Setup.{Setup}
-use Rattle.run_laws.specs.CodeSteps.{answer_in}
-use Rattle.subsystem.specs.Keeping.{serials_brought}
 use Rattle.glance_cell.specs.Shown.{Words}
 use Rattle.machine_model.specs.State.{State}
 use Rattle.unit_driver.specs.declared.turns.OwedCall.{OwedCall}
 use Rattle.unit_driver.specs.declared.waiting.WaitingReport.{WaitingReport}
 use Rattle.unit_driver.specs.declared.turns.TakenCommand.{TakenCommand}
-use Rattle.core_lock.specs.Directory.{Directory, index_named}
-use Rattle.core_lock.specs.Named.{serials}
+use Rattle.glance_directory.specs.Directory.{Directory}
+use Rattle.glance_directory.specs.Raising.{raised_among}
 
 -- a machine under its lock: its state and the history that led there, the seat of each entry of it, and how many seats were made
 pub record Locked : Type 0 where
@@ -71,23 +67,6 @@ entries_by number [] history = []
 entries_by number (n ∷ by) [] = []
 entries_by number (n ∷ by) (e ∷ history) = if n == number then e ∷ entries_by number by history else entries_by number by history
 
--- part by part the greater
-abbrev pub greater : Serials → Serials → Serials
-greater one other = serials (max one.made other.made) (max one.cleared other.cleared)
-
--- the pair of an index, raised to these counts
-abbrev pub raised_at : List Serials → Option ℕ → Serials → List Serials
-raised_at seen_serials None found = seen_serials
-raised_at seen_serials (Some index) found = slice_set seen_serials index (greater (slice_index_or seen_serials index found) found)
-
-abbrev pub raised_by : List Serials → Option ℕ → Option Serials → List Serials
-raised_by seen_serials index None = seen_serials
-raised_by seen_serials index (Some found) = raised_at seen_serials index found
-
--- TEST SUBCHANNEL with code 0 or 1 ends by raising the pair of its subchannel to the counts that it answers
-abbrev pub raised_among : List Serials → Directory → Event → Reply → List Serials
-raised_among seen_serials directory (event.Execute cpu (instruction.Tsch word address)) r = raised_by seen_serials (index_named directory word) (serials_brought (answer_in r))
-raised_among seen_serials directory e r = seen_serials
-
+-- the pairs of a seat, raised by an event that it entered
 abbrev pub raised : Seated → Event → Reply → List Serials
 raised seat e r = raised_among seat.seen_serials seat.directory e r

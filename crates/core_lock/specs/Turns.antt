@@ -20,12 +20,12 @@ use Rattle.unit_driver.specs.declared.waiting.WaitingReport.{WaitingReport}
 use Rattle.unit_driver.specs.declared.turns.TakenCommand.{TakenCommand}
 use Rattle.unit_driver.specs.declared.turns.Turn.{Turn}
 use Rattle.unit_driver.specs.declared.turns.Turn.TheVariants.{Enters, Leaves, Owes, Rests}
-use Rattle.core_lock.specs.Directory.{directory_of}
+use Rattle.glance_directory.specs.Directory.{directory_of}
 use Rattle.core_lock.specs.Seats.{Guarded, GuardedCore, HeldSeat, Seated}
 use Rattle.unit_driver.specs.Waiting.{waits_after, report_event}
 use Rattle.unit_driver.specs.Reporting.{report_of}
 use Rattle.unit_driver.specs.Turns.{turn_of}
-use Rattle.core_lock.specs.PathTurns.{path_turn_among}
+use Rattle.glance_directory.specs.PathTurns.{path_turn_among}
 use Rattle.core_lock.specs.Entering as entering
 use Rattle.core_lock.specs.Entering.{IsExhausted}
 

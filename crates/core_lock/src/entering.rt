@@ -5,16 +5,16 @@ ghost use Rattle.chan_model.specs.declared.fault.Fault.TheVariants as fault_spec
 ghost use Rattle.event_log.specs.Logs.{IsKept};
 ghost use Rattle.subsystem.specs.Keeping.{StaysSetUp, all_serials, answer_of};
 ghost use Rattle.core_lock.specs.Entering.{IsEntered, core_of, starved_after};
-ghost use Rattle.core_lock.specs.Named.{cells_of, shown};
+ghost use Rattle.glance_directory.specs.Cells.{cells_of, shown};
 
 use crate::locked::Seat;
 use crate::naming::{Entries, MachineBrand};
-use crate::seen_serials::{publish, raise};
-use crate::touching::{touched_by, touches};
 use chan_events::event::Event;
 use chan_model::fault::Fault;
 use event_log::logs::Log;
 use glance_cell::cell::Writer;
+use glance_directory::seen_serials::{publish, raise};
+use glance_directory::touching::{touched_by, touches};
 use memory::{Supply, ensure_room};
 use path_select::PathChoice;
 use std::sync::ledger::Book;

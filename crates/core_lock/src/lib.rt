@@ -4,13 +4,11 @@
 //! and the same in the log of the seat that it was entered from; a refusal leaves the subsystem, the glance cells and the seat
 //! as they were. Whenever the lock is free the history replays to the state, what the subsystem promises of every history holds
 //! of it, and each glance cell has the serials of its subchannel. `audit` says exactly whether each seat's log is what the
-//! history has of it, `Core::close` exactly whether all seats came back. A directory has the subchannels of the configuration,
-//! an index for each name. A look at serials takes no lock, no memory, and never falls behind what its seat saw: a pair is raised
-//! to the part by part greater. Memory comes from a supply that can refuse it. That a call which takes the lock returns is not
-//! promised, nor any order between seats.
+//! history has of it, `Core::close` exactly whether all seats came back. A look at serials takes no lock, no memory, and never
+//! falls behind what its seat saw. Memory comes from a supply that can refuse it. That a call which takes the lock returns is
+//! not promised, nor any order between seats.
 #![tactic(auto)]
 
-pub mod directory;
 mod entering;
 pub mod executing;
 pub mod gate;
@@ -19,10 +17,7 @@ pub mod locked;
 mod looking;
 pub mod naming;
 pub mod parts;
-mod path_turns;
 mod same_log;
-pub mod seen_serials;
 pub mod stock;
 pub mod supplies;
-pub mod touching;
 mod turning;

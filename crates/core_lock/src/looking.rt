@@ -2,9 +2,9 @@
 
 ghost use Rattle.std.specs.Prelude.{◌≡◌, ◌<◌, ◌≤◌, None, Some, IsSome, IfOk, IfErr, OnErr, is_some, length, slice_get};
 ghost use Rattle.chan_model.specs.declared.fault.Fault.TheVariants as fault_spec;
-ghost use Rattle.core_lock.specs.Directory.{index_named};
+ghost use Rattle.glance_directory.specs.Directory.{index_named};
 ghost use Rattle.core_lock.specs.Entering.{Glances, LoadsAt, Looks};
-ghost use Rattle.core_lock.specs.Named.{cells_of, serials, shown};
+ghost use Rattle.glance_directory.specs.Cells.{cells_of, serials, shown};
 ghost use Rattle.machine_model.specs.State.{sub_of};
 ghost use Rattle.core_lock.specs.Turns as turn_spec;
 
@@ -12,10 +12,10 @@ use crate::gate::{Gate, Gated};
 use crate::guarded::Guarded;
 use crate::locked::{Core, Seat};
 use crate::naming::MachineBrand;
-use crate::seen_serials::greater;
 use chan_model::fault::Fault;
 use glance_cell::cell::{Reader, Writer};
 use glance_cell::words::Glance;
+use glance_directory::seen_serials::greater;
 use path_select::PathChoice;
 use scsw_irb::serials::Serials;
 

@@ -3,14 +3,14 @@
 ghost use Rattle.std.specs.Prelude.{◌≡◌, true, IfOk, OnErr, OnOk, replicate};
 ghost use Rattle.machine_model.specs.State.{opening_of};
 ghost use Rattle.subsystem.specs.Keeping.{all_serials};
-ghost use Rattle.core_lock.specs.Directory.{directory_of};
-ghost use Rattle.core_lock.specs.Named.{shown, serials};
+ghost use Rattle.glance_directory.specs.Directory.{directory_of};
+ghost use Rattle.glance_directory.specs.Cells.{shown, serials};
 
-use crate::directory::Directory;
 use crate::supplies::CoreSupply;
 use channel_config::config::Config;
 use glance_cell::cell::Writer;
 use glance_cell::supplies::CellSupply;
+use glance_directory::directory::Directory;
 use memory::{Allocator, push};
 use std::alloc::{AllocError, Global};
 use std::marker::Model;
@@ -29,7 +29,8 @@ pub struct Parts {
 impl Model for Parts {
     ghost use Rattle.std.specs.Prelude.{◌≡◌, length};
     ghost use Rattle.std.specs.Arc.{arc_value};
-    ghost use Rattle.core_lock.specs.Named.{MachineParts, cells_of, shown};
+    ghost use Rattle.glance_directory.specs.Cells.{cells_of, shown};
+    ghost use Rattle.core_lock.specs.Named.{MachineParts};
 
     ghost Value = { MachineParts };
 

@@ -3,8 +3,8 @@
 ghost use Rattle.std.specs.Prelude.{◌≡◌, ◌+◌, true, IfOk, OnOk, OnErr};
 ghost use Rattle.std.specs.Arc.{arc_value};
 
-use crate::directory::Directory;
 use glance_cell::supplies::CellSupply;
+use glance_directory::directory::Directory;
 use memory::{Allocator, FailingMemory};
 use std::alloc::{AllocError, Global};
 use std::sync::Arc;

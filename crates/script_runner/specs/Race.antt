@@ -13,8 +13,8 @@ use Rattle.channel_config.specs.Setup.{Setup}
 use Rattle.core_lock.specs.declared.executing.CpuInstruction.{CpuInstruction}
 use Rattle.core_lock.specs.declared.executing.CpuInstruction.TheVariants as cpu_instruction
 use Rattle.core_lock.specs.Entering.{event_of}
-use Rattle.core_lock.specs.Directory.{directory_of}
-use Rattle.core_lock.specs.Named.{shown}
+use Rattle.glance_directory.specs.Directory.{directory_of}
+use Rattle.glance_directory.specs.Cells.{shown}
 use Rattle.core_lock.specs.Seats.{HeldSeat, Locked, Seated, entries_by}
 use Rattle.glance_cell.specs.Shown.{Words}
 use Rattle.script_rows.specs.declared.race.Race.{Race}

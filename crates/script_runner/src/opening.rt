@@ -6,7 +6,7 @@ ghost use Rattle.script_runner.specs.Acting.{IsOpeningSeat, books_of, past_of};
 ghost use Rattle.script_runner.specs.Race.{AreMade, IsNewSeat, IsSeatedIn};
 ghost use Rattle.machine_model.specs.State.{opening_of};
 ghost use Rattle.subsystem.specs.Keeping.{all_serials};
-ghost use Rattle.core_lock.specs.Directory.{directory_of};
+ghost use Rattle.glance_directory.specs.Directory.{directory_of};
 ghost use Rattle.device_models.specs.AnyDevices.{device_of};
 
 use crate::racers::{Racers, one_seat};

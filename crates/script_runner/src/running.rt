@@ -3,7 +3,7 @@
 ghost use Rattle.std.specs.Prelude.{◌≡◌, ◌≢◌, Bool, true};
 ghost use Rattle.machine_model.specs.State.{opening_of};
 ghost use Rattle.subsystem.specs.Keeping.{all_serials};
-ghost use Rattle.core_lock.specs.Directory.{directory_of};
+ghost use Rattle.glance_directory.specs.Directory.{directory_of};
 ghost use Rattle.script_runner.specs.Race.{AreMade};
 ghost use Rattle.script_runner.specs.Serving as spec;
 ghost use Rattle.script_runner.specs.declared.Ending.TheVariants as ending;

@@ -13,7 +13,7 @@ ghost use Rattle.script_runner.specs.Acting.{books_of, past_of, PerformsAction, 
 ghost use Rattle.machine_model.specs.State.{opening_of, sub_of, serials_in, unit_turn_of};
 ghost use Rattle.event_log.specs.Logs.{last_reply};
 ghost use Rattle.subsystem.specs.Keeping.{all_serials, answer_of};
-ghost use Rattle.core_lock.specs.Directory.{directory_of};
+ghost use Rattle.glance_directory.specs.Directory.{directory_of};
 ghost use Rattle.core_lock.specs.Seats.{entries_by};
 ghost use Rattle.device_models.specs.declared.any_device.AnyDevice.{AnyDevice};
 ghost use Rattle.chan_model.specs.Reports as report_spec;

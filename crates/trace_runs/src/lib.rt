@@ -4,7 +4,7 @@
 ghost use Rattle.std.specs.Prelude.{◌≡◌, [], IfErr, IfOk, OnOk, Some};
 ghost use Rattle.machine_model.specs.State.{opening_of};
 ghost use Rattle.subsystem.specs.Keeping.{all_serials};
-ghost use Rattle.core_lock.specs.Directory.{directory_of};
+ghost use Rattle.glance_directory.specs.Directory.{directory_of};
 ghost use Rattle.script_runner.specs.Acting.{Installed, IsAudited, IsOpening};
 ghost use Rattle.trace_runs.specs.Faults.{IsFaultIn, IsFaultOf, IsScriptFault};
 ghost use Rattle.trace_runs.specs.Tracing.{HasPerformedAt, HasTraced, IsSeen, IsTraced};

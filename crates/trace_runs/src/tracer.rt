@@ -3,7 +3,7 @@
 ghost use Rattle.std.specs.Prelude.{◌≡◌, ◌≢◌, ◌≤◌, ◌++◌, ◌∷◌, ◌⊎◌, ℕ, List, [], Ok, Err, IfErr, IfOk, IfSome, IsTrue, ◌↔◌, OnOk, OnErr, drop, length, true};
 ghost use Rattle.machine_model.specs.State.{opening_of};
 ghost use Rattle.subsystem.specs.Keeping.{all_serials};
-ghost use Rattle.core_lock.specs.Directory.{directory_of};
+ghost use Rattle.glance_directory.specs.Directory.{directory_of};
 ghost use Rattle.script_rows.specs.Slots.{action_in, action_length};
 ghost use Rattle.script_runner.specs.Acting.{IsAudited, IsOpening};
 ghost use Rattle.chan_model.specs.declared.fault.Fault.TheVariants as refusal_spec;

@@ -4,10 +4,10 @@ use Rattle.chan_events.specs.declared.reply.Entry.{Entry}
 use Rattle.event_log.specs.Logs.{last_reply}
 use Rattle.scsw_irb.specs.declared.serials.Serials.{Serials}
 use Rattle.subsystem.specs.Keeping.{IsOrdered, all_serials}
-use Rattle.core_lock.specs.declared.touching.ChangedSerials.{ChangedSerials}
-use Rattle.core_lock.specs.Named.{shown}
+use Rattle.glance_directory.specs.declared.touching.ChangedSerials.{ChangedSerials}
+use Rattle.glance_directory.specs.Cells.{shown}
 use Rattle.core_lock.specs.Seats.{entry}
-use Rattle.core_lock.specs.Touching.{Changes, touched}
+use Rattle.glance_directory.specs.Touching.{Changes, touched}
 use Rattle.core_lock.proofs.Entered.{accepted}
 use Rattle.core_lock.proofs.Lengthening.{longer}
 use Rattle.core_lock.proofs.Raising.{raised_length, raised_ordered}

@@ -1,6 +1,6 @@
 use Rattle.std.proofs.Common.{length, sym, ap, ◌∙◌}
 use Rattle.core_lock.specs.Named.{MachineName, MachineParts}
-use Rattle.core_lock.proofs.Directories.{directory_is}
+use Rattle.glance_directory.proofs.Directories.{directory_is}
 use Rattle.core_lock.proofs.guarded.open.Goals as goal
 
 pub invariant_of-guarded : goal.invariant_of-guarded

@@ -2,7 +2,7 @@ use Rattle.std.proofs.Common.{◌+◌, length, refl, sym, ap, ◌∙◌, Some}
 use Rattle.std.specs.Prelude.{slice_set}
 use Rattle.std.proofs.lemmas.Option.{slice_get_read}
 use Rattle.glance_cell.specs.Shown.{Words}
-use Rattle.core_lock.specs.Named.{serials}
+use Rattle.glance_directory.specs.Cells.{serials}
 use Rattle.core_lock.proofs.Looks.{cell_at, shown_there}
 use Rattle.core_lock.proofs.looking.load_at.Goals as goal
 

@@ -1,6 +1,6 @@
 use Rattle.std.proofs.Common.{◌≡◌}
 use Rattle.std.specs.Prelude.{replicate}
-use Rattle.core_lock.specs.Named.{serials, shown}
+use Rattle.glance_directory.specs.Cells.{serials, shown}
 use Rattle.core_lock.proofs.parts.writers_of.Given as goal
 
 abbrev pub invariant-loop-index : goal.invariant-loop-index

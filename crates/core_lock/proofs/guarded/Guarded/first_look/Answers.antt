@@ -1,7 +1,7 @@
 use Rattle.std.proofs.Common.{sym, ap, ◌∙◌}
-use Rattle.core_lock.specs.Directory.{directory_of}
+use Rattle.glance_directory.specs.Directory.{directory_of}
 use Rattle.core_lock.specs.Seats.{GuardedCore}
-use Rattle.core_lock.proofs.Directories.{is_named}
+use Rattle.glance_directory.proofs.Directories.{is_named}
 use Rattle.core_lock.proofs.guarded.Guarded.first_look.Goals as goal
 
 pub returns-clause-directory : goal.returns-clause-directory

@@ -4,12 +4,12 @@ use Rattle.std.specs.Arc.{arc_value}
 use Rattle.std.proofs.lemmas.List.{length-set}
 use Rattle.std.proofs.lemmas.Option.{slice_get_read}
 use Rattle.subsystem.specs.Keeping.{IsOrdered}
-use Rattle.core_lock.specs.Directory.{Directory, index_named}
+use Rattle.glance_directory.specs.Directory.{Directory, index_named}
 use Rattle.scsw_irb.specs.declared.serials.Serials.{Serials}
 use Rattle.core_lock.specs.Seats.{GuardedCore, HeldSeat, Seated}
 use Rattle.core_lock.specs.Entering.{Looks}
-use Rattle.core_lock.proofs.Rewriting.{same_cells}
-use Rattle.core_lock.proofs.Directories.{is_named}
+use Rattle.glance_directory.proofs.Rewriting.{same_cells}
+use Rattle.glance_directory.proofs.Directories.{is_named}
 use Rattle.core_lock.proofs.Looks.{looks, lacks, same_count}
 use Rattle.core_lock.proofs.Looks as look
 use Rattle.core_lock.proofs.Raising.{set_ordered, greater_ordered}

@@ -1,8 +1,8 @@
 use Rattle.std.proofs.Common.{sym, ap, ◌∙◌}
-use Rattle.core_lock.specs.Directory.{Directory, directory_of}
+use Rattle.glance_directory.specs.Directory.{Directory, directory_of}
 use Rattle.core_lock.specs.Seats.{GuardedCore}
-use Rattle.core_lock.specs.PathTurns.{path_turn_among}
-use Rattle.core_lock.proofs.Directories.{is_named}
+use Rattle.glance_directory.specs.PathTurns.{path_turn_among}
+use Rattle.glance_directory.proofs.Directories.{is_named}
 use Rattle.core_lock.proofs.guarded.Guarded.path_event.Goals as goal
 
 pub returns : goal.returns

@@ -2,10 +2,10 @@ use Rattle.std.proofs.Common.{◌≡◌, sym, ◌∙◌, subst}
 use Rattle.std.specs.Arc.{arc_value}
 use Rattle.machine_model.specs.Setups.{IsSetUp}
 use Rattle.machine_model.specs.Steps.{HasRun}
-use Rattle.core_lock.specs.Directory.{directory_of}
+use Rattle.glance_directory.specs.Directory.{directory_of}
 use Rattle.core_lock.specs.Seats.{GuardedCore, HeldSeat}
 use Rattle.core_lock.specs.Turns.{IsOfMachine}
-use Rattle.core_lock.proofs.Directories.{is_named}
+use Rattle.glance_directory.proofs.Directories.{is_named}
 use Rattle.core_lock.proofs.guarded.Guarded.stands.Goals as goal
 
 pub returns : goal.returns

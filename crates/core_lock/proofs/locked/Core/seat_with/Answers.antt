@@ -1,7 +1,7 @@
 use Rattle.std.proofs.Common.{ap, ◌∙◌}
-use Rattle.core_lock.specs.Directory.{Directory, directory_of, index_named}
+use Rattle.glance_directory.specs.Directory.{Directory, directory_of, index_named}
 use Rattle.core_lock.specs.Seats.{LockedCore}
-use Rattle.core_lock.proofs.Directories.{index_is}
+use Rattle.glance_directory.proofs.Directories.{index_is}
 use Rattle.core_lock.proofs.locked.Core.seat_with.Goals as goal
 
 pub returns-clause-indices : goal.returns-clause-indices

@@ -4,9 +4,10 @@ use Rattle.std.proofs.lemmas.List.{length-set}
 use Rattle.std.proofs.lemmas.Option.{slice_get_read}
 use Rattle.std.proofs.Math.Seq.{map-set_same}
 use Rattle.subsystem.specs.Keeping.{IsOrdered}
-use Rattle.core_lock.specs.Directory.{Directory, index_named}
-use Rattle.core_lock.specs.Named.{cell_of, serials}
-use Rattle.core_lock.specs.Seats.{HeldSeat, greater}
+use Rattle.glance_directory.specs.Directory.{Directory, index_named}
+use Rattle.glance_directory.specs.Cells.{cell_of, serials}
+use Rattle.glance_directory.specs.Raising.{greater}
+use Rattle.core_lock.specs.Seats.{HeldSeat}
 use Rattle.core_lock.proofs.Raising.{set_ordered, greater_ordered}
 use Rattle.core_lock.proofs.locked.Seat.glance.Goals as goal
 

@@ -1,7 +1,7 @@
 use Rattle.std.proofs.Common.{length, ap, ◌∙◌}
 use Rattle.std.specs.Prelude.{replicate}
-use Rattle.core_lock.specs.Named.{serials}
-use Rattle.core_lock.proofs.Directories.{opening_directory, opening_serials}
+use Rattle.glance_directory.specs.Cells.{serials}
+use Rattle.glance_directory.proofs.Directories.{opening_directory, opening_serials}
 use Rattle.core_lock.proofs.parts.Parts.new_with.Goals as goal
 
 pub returns-clause-directory : goal.returns-clause-directory

@@ -1,8 +1,0 @@
-use Rattle.std.proofs.Common.{◌≡◌, take}
-use Rattle.core_lock.proofs.directory.copies_of.Given as goal
-
-abbrev pub invariant-loop-setup : goal.invariant-loop-setup
-invariant-loop-setup g l = record {
-  copies : l.copies.items ≡ take l.setup-index l.setups;
-  unrefused : g.S.Supply.refused l.supply ≡ g.S.Supply.refused l.fn.supply;
-}

@@ -1,7 +1,0 @@
-use Rattle.std.proofs.Common.{◌≡◌, None, take}
-use Rattle.core_lock.specs.Directory.{named_index}
-use Rattle.core_lock.proofs.directory.named_index.Given as goal
-
--- none of the subchannels so far has this name
-abbrev pub invariant-loop-index : goal.invariant-loop-index
-invariant-loop-index l = named_index l.id (take l.index l.setups) ≡ None

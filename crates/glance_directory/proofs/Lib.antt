@@ -1,0 +1,4 @@
+pub mod Finding
+pub mod Rewriting
+pub mod Changing
+pub mod Directories
