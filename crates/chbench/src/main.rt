@@ -212,6 +212,12 @@ fn on_lent(
     subchannels: u32,
     cycles: u64,
 ) -> Option<Count> {
+    let mut bytes = vec![in alloc; 0; 0x1000 * BLOCKS as usize].ok()?;
+    let mut keys = vec![in alloc; 0; BLOCKS as usize].ok()?;
+    let mut prefixes = [0; 16];
+    if !LentStorage::fits(bytes.len(), keys.len(), &prefixes) {
+        return None;
+    }
     let config = config_of(alloc, subchannels, kind.paths())?;
     let subsystem = ChannelSubsystem::new(
         alloc,
@@ -220,12 +226,6 @@ fn on_lent(
         Keeping::LastEntry,
         Rotating,
     ).ok()?;
-    let mut bytes = vec![in alloc; 0; 0x1000 * BLOCKS as usize].ok()?;
-    let mut keys = vec![in alloc; 0; BLOCKS as usize].ok()?;
-    let mut prefixes = [0; 16];
-    if !LentStorage::fits(bytes.len(), keys.len(), &prefixes) {
-        return None;
-    }
     let storage = LentStorage::new(bytes.as_mut_slice(), keys.as_mut_slice(), &mut prefixes);
     match answers {
         Answers::AreOwned => {
