@@ -1,4 +1,4 @@
--- What the glance cells of a machine show, one for each subchannel.
+-- What the glance cells of a machine show, one for each subchannel (own).
 use Rattle.std.specs.Prelude.{ℕ, List, map}
 use Rattle.atomic_table.specs.Seated.{TableId}
 use Rattle.scsw_irb.specs.declared.serials.Serials.{Serials}

@@ -1,4 +1,4 @@
--- The serials that a seat has seen, which never fall.
+-- The serials that a seat has seen, which never fall (own).
 use Rattle.std.specs.Prelude.{ℕ, max, List, Option, None, Some, slice_index_or, slice_set}
 use Rattle.scsw_irb.specs.declared.serials.Serials.{Serials}
 use Rattle.chan_events.specs.Events.{Event}

@@ -1,4 +1,4 @@
--- Which subchannels' serials an event may change.
+-- Which subchannels' serials an event may change (own).
 use Rattle.std.specs.Prelude.{◌≡◌, ◌<◌, ℕ, List, Option, None, Some, slice_set}
 use Rattle.scsw_irb.specs.declared.serials.Serials.{Serials}
 use Rattle.chan_events.specs.Events.{Event}
