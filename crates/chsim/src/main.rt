@@ -9,8 +9,6 @@ ghost use Rattle.chsim.specs.Outcomes as outcome_spec;
 ghost use Rattle.chsim.specs.Program.{IsServed, LacksMemory, ShowsRefusal};
 
 pub mod outcome;
-#[cfg(test)]
-mod tests;
 
 use crate::outcome::Outcome;
 use command_words::{Refused, TextSupply, Wanted, command_of};
