@@ -1,4 +1,4 @@
-//! Tests of the whole machine, and of scripts and device models where no script shows it.
+//! Tests of the whole machine, and of scripts, where no script shows it.
 #![tactic(auto)]
 
 #[cfg(test)]

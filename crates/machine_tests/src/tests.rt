@@ -1,12 +1,9 @@
-//! A module for each crate that is tested.
+//! What no script shows: room that is refused, long runs, and a history that is performed again.
 
 mod channel_subsystem_tests;
-mod device_models_ends;
-mod device_models_tests;
-mod histories_tests;
+mod later_status_tests;
 mod long_runs_tests;
-mod many_subchannels_tests;
 mod refusals_tests;
 mod script_tests;
 mod script_text_tests;
-mod subsystem_tests;
+mod writing;

@@ -1,35 +1,40 @@
-//! Readers and writers that give and take a few bytes a call, and fail at one.
+//! Readers and writers that move a few bytes a call, of which the first is interrupted, and fail at one. What a program does as they
+//! fail at each of its calls, and as room for a text is refused, the tests of `chsim` show.
 
-use memory::{Allocator, FailingMemory};
 use std::alloc::Global;
 use std::io;
 use std::io::{ErrorKind, Read, Write};
-use streams::{
-    CheckedReader, CheckedWriter, NoText, Sink, Source, put_all, put_both, read_all, read_all_with,
-};
+use streams::{CheckedReader, CheckedWriter, NoText, Sink, Source, put_all, read_all};
 
 const TEXT: &[u8] = b"storage 10\npath 10\n";
 
-/// Gives `most` bytes a call; its call number `interrupted_at` is interrupted, and `fails_at` fails.
+/// Gives this text, or takes it, at most so many bytes a call. Its first call is interrupted, and the one of a number fails.
 #[derive(Drop)]
 struct Slow<'a> {
     rest: &'a [u8],
     most: usize,
     calls: u64,
-    interrupted_at: u64,
     fails_at: u64,
 }
 
-impl Read for Slow<'_> {
-    fn read(&mut self, buf: &mut [u8]) -> io::Result<usize> {
+impl Slow<'_> {
+    /// How many bytes the next call may move.
+    fn turn(&mut self) -> io::Result<usize> {
         self.calls = self.calls.wrapping_add(1);
-        if self.calls == self.interrupted_at {
+        if self.calls == 1 {
             return Err(io::Error::from(ErrorKind::Interrupted));
         }
         if self.calls == self.fails_at {
             return Err(io::Error::from(ErrorKind::Other));
         }
-        let n = self.rest.len().min(self.most).min(buf.len());
+        Ok(self.most)
+    }
+}
+
+impl Read for Slow<'_> {
+    fn read(&mut self, buf: &mut [u8]) -> io::Result<usize> {
+        let most = self.turn()?;
+        let n = self.rest.len().min(most).min(buf.len());
         let (front, rest) = self.rest.split_at(n);
         buf[..n].copy_from_slice(front);
         self.rest = rest;
@@ -37,27 +42,16 @@ impl Read for Slow<'_> {
     }
 }
 
-/// Takes `most` bytes a call; its call number `interrupted_at` is interrupted, and `fails_at` fails.
-#[derive(Drop)]
-struct Short {
-    text: Vec<u8>,
-    most: usize,
-    calls: u64,
-    interrupted_at: u64,
-    fails_at: u64,
-}
-
-impl Write for Short {
+impl Write for Slow<'_> {
+    /// Bytes that are not the next ones of the text make it fail.
     fn write(&mut self, buf: &[u8]) -> io::Result<usize> {
-        self.calls = self.calls.wrapping_add(1);
-        if self.calls == self.interrupted_at {
-            return Err(io::Error::from(ErrorKind::Interrupted));
-        }
-        if self.calls == self.fails_at {
+        let most = self.turn()?;
+        let n = self.rest.len().min(most).min(buf.len());
+        let (front, rest) = self.rest.split_at(n);
+        if front != &buf[..n] {
             return Err(io::Error::from(ErrorKind::Other));
         }
-        let n = buf.len().min(self.most);
-        self.text.extend_from_slice(&buf[..n])?;
+        self.rest = rest;
         Ok(n)
     }
 
@@ -66,153 +60,57 @@ impl Write for Short {
     }
 }
 
-/// A reader of the text, ten bytes a call, whose first call is interrupted.
-fn slow_reader(fails_at: u64) -> Slow<'static> {
+fn slowly(most: usize, fails_at: u64) -> Slow<'static> {
     Slow {
         rest: TEXT,
-        most: 10,
-        calls: 0,
-        interrupted_at: 1,
-        fails_at,
-    }
-}
-
-/// A writer whose first call is interrupted.
-fn short_writer(alloc: Global, most: usize, fails_at: u64) -> Short {
-    Short {
-        text: Vec::new(alloc),
         most,
         calls: 0,
-        interrupted_at: 1,
         fails_at,
     }
 }
 
-/// Whether the whole text was read, or this is why it was not.
-fn is_text(read: &Result<Vec<u8>, NoText>, refusal: Option<NoText>) -> bool {
-    match read {
-        Ok(text) => refusal == None && text.as_slice() == TEXT,
-        Err(why) => refusal == Some(*why),
-    }
-}
-
-/// Whether these are so many bytes of the text, from its first on.
-fn is_front(bytes: &[u8], count: usize) -> bool {
-    count <= TEXT.len() && bytes == &TEXT[..count]
+/// Whether the whole text is read, ten bytes a call, or the source shows that it failed.
+fn is_read(alloc: Global, fails_at: u64, whole: bool) -> bool {
+    let mut source = CheckedReader::new(slowly(10, fails_at));
+    let right = match source.all(alloc) {
+        Ok(text) => whole && text.as_slice() == TEXT,
+        Err(why) => !whole && why == NoText::ReadFailed,
+    };
+    right && source.broken != whole
 }
 
 #[test]
 fn all_is_read(rt: HostRuntime) {
-    assert!(rt; reads_memory(rt.alloc()));
-    let failed = Some(NoText::ReadFailed);
-    for (fails_at, refusal) in [(0, None), (2, failed), (4, failed), (6, None)] {
-        assert!(rt; reads(rt.alloc(), fails_at, refusal), "{fails_at}");
+    for (fails_at, whole) in [(0, true), (2, false), (4, false), (6, true)] {
+        assert!(rt; is_read(rt.alloc(), fails_at, whole), "{fails_at}");
     }
-}
-
-fn reads_memory(alloc: Global) -> bool {
     let mut memory = TEXT;
-    read_all(alloc, &mut memory).is_ok()
+    assert!(rt; read_all(rt.alloc(), &mut memory).is_ok());
 }
 
-fn reads(alloc: Global, fails_at: u64, refusal: Option<NoText>) -> bool {
-    let mut reader = slow_reader(fails_at);
-    is_text(&read_all(alloc, &mut reader), refusal)
+/// Whether so many bytes of the text are written, in calls for at most so many; a sink shows where these are not all.
+fn is_written(most: usize, fails_at: u64, taken: usize) -> bool {
+    let mut sink = CheckedWriter::new(slowly(most, fails_at));
+    let put = sink.put(TEXT);
+    let moved = TEXT.len().saturating_sub(sink.writer.rest.len());
+    put == (taken == TEXT.len())
+        && sink.failed != put
+        && moved == taken
+        && put_all(&mut slowly(most, fails_at), TEXT) == taken
 }
+
+/// How many bytes a call, the number of the call that fails, and how many bytes are written.
+const WRITES: [(usize, u64, usize); 5] = [
+    (10, 0, 19),
+    (10, 2, 0),
+    (10, 3, 10),
+    (10, 4, 19),
+    (0, 0, 0),
+];
 
 #[test]
 fn all_is_written(rt: HostRuntime) {
-    assert!(rt; written(rt.alloc()) == 19);
-    for (most, fails_at, taken) in [(10, 0, 19), (10, 3, 10), (10, 2, 0), (0, 0, 0)] {
-        assert!(rt; writes(rt.alloc(), most, fails_at, taken), "{fails_at}");
+    for (most, fails_at, taken) in WRITES {
+        assert!(rt; is_written(most, fails_at, taken), "{most} {fails_at}");
     }
-}
-
-/// How many bytes of the text are put into memory.
-fn written(alloc: Global) -> usize {
-    let mut memory = Vec::new(alloc);
-    put_all(&mut memory, TEXT)
-}
-
-fn writes(alloc: Global, most: usize, fails_at: u64, taken: usize) -> bool {
-    let mut writer = short_writer(alloc, most, fails_at);
-    is_written(&mut writer, taken)
-}
-
-/// Whether a writer takes so many bytes of the text.
-fn is_written(writer: &mut Short, taken: usize) -> bool {
-    let put = put_all(writer, TEXT);
-    put == taken && is_front(writer.text.as_slice(), taken)
-}
-
-#[test]
-fn each_growth_is_refused_in_turn(rt: HostRuntime) {
-    let no_memory = Some(NoText::OutOfMemory);
-    for (left, refusal) in [(0, no_memory), (1, no_memory), (2, None), (3, None)] {
-        assert!(rt; reads_in(rt.alloc(), left, refusal), "{left}");
-    }
-    assert!(rt; reads_by_allocator(rt.alloc()), "the allocator has room");
-}
-
-/// Whether a read where so many growths are granted comes to this, and a refusal can be seen.
-fn reads_in(alloc: Global, left: u64, refusal: Option<NoText>) -> bool {
-    let mut reader = slow_reader(0);
-    let mut supply = FailingMemory {
-        left,
-        refused: false,
-    };
-    let is_right = is_text(&read_all_with(alloc, &mut supply, &mut reader), refusal);
-    is_right && supply.refused == refusal.is_some()
-}
-
-fn reads_by_allocator(alloc: Global) -> bool {
-    let mut supply = Allocator { refused: false };
-    let mut memory = TEXT;
-    read_all_with(alloc, &mut supply, &mut memory).is_ok()
-}
-
-#[test]
-fn a_source_shows_that_it_failed(rt: HostRuntime) {
-    for (fails_at, refusal) in [(0, None), (2, Some(NoText::ReadFailed))] {
-        assert!(rt; gives(rt.alloc(), fails_at, refusal), "{fails_at}");
-    }
-}
-
-/// Whether what a source gives comes to this, and it shows a failure.
-fn gives(alloc: Global, fails_at: u64, refusal: Option<NoText>) -> bool {
-    let mut source = CheckedReader::new(slow_reader(fails_at));
-    let is_right = is_text(&source.all(alloc), refusal);
-    is_right && source.broken == refusal.is_some()
-}
-
-#[test]
-fn a_sink_shows_that_it_failed(rt: HostRuntime) {
-    for (fails_at, taken) in [(0, 19), (2, 0), (3, 10), (4, 19)] {
-        assert!(rt; puts(rt.alloc(), fails_at, taken), "{fails_at}");
-    }
-    assert!(rt; puts_both(rt.alloc()));
-}
-
-fn puts(alloc: Global, fails_at: u64, taken: usize) -> bool {
-    let mut sink = CheckedWriter::new(short_writer(alloc, 10, fails_at));
-    is_put(&mut sink, taken)
-}
-
-/// Whether a sink takes so many bytes of the text, and shows where these are not all.
-fn is_put(sink: &mut CheckedWriter<Short>, taken: usize) -> bool {
-    let all_put = sink.put(TEXT);
-    all_put == (taken == 19)
-        && sink.failed == (taken < 19)
-        && is_front(sink.writer.text.as_slice(), taken)
-}
-
-fn puts_both(alloc: Global) -> bool {
-    let mut sink = CheckedWriter::new(Vec::new(alloc));
-    are_both_put(&mut sink)
-}
-
-/// Whether a sink takes two texts, one after the other.
-fn are_both_put(sink: &mut CheckedWriter<Vec<u8>>) -> bool {
-    let both_put = put_both(sink, b"storage ", b"10\n");
-    both_put && sink.writer.as_slice() == b"storage 10\n".as_slice()
 }

@@ -1,16 +1,49 @@
 //! Lines that are written at once or in part, and refusals that no script meets. What else is printed, scripts show that `tools/scenes`
-//! and `example_tests` run.
+//! and `tools/stored` run.
 
 use chan_events::reply::Reply;
 use chan_model::chunk::Chunk;
 use chan_model::fault::Fault;
 use script_text::{ActionResult, put_bad_line, put_event_line, put_refusal};
 use scsw_irb::serials::Serials;
-use std::alloc::Global;
 use std::io;
 use std::io::Write;
 use storage_keys::StorageFault;
 use streams::{CheckedWriter, Sink};
+
+/// Takes so many bytes, and then no more; and says whether all that it took is this text.
+#[derive(Drop)]
+struct Brief<'a> {
+    rest: &'a [u8],
+    left: usize,
+    calls: u64,
+    same: bool,
+}
+
+impl Write for Brief<'_> {
+    fn write(&mut self, buf: &[u8]) -> io::Result<usize> {
+        let taken = buf.len().min(self.left);
+        self.same = self.same && self.rest.starts_with(&buf[..taken]);
+        self.rest = self.rest.get(taken..).unwrap_or(&[]);
+        self.left -= taken;
+        self.calls = self.calls.wrapping_add(1);
+        Ok(taken)
+    }
+
+    fn flush(&mut self) -> io::Result<()> {
+        Ok(())
+    }
+}
+
+/// A sink that takes so many bytes, which are to be these.
+fn cut_after(text: &[u8], left: usize) -> CheckedWriter<Brief<'_>> {
+    CheckedWriter::new(Brief {
+        rest: text,
+        left,
+        calls: 0,
+        same: true,
+    })
+}
 
 /// Four lines.
 fn put_lines<S: Sink>(sink: &mut S) -> bool {
@@ -26,91 +59,40 @@ fn put_lines<S: Sink>(sink: &mut S) -> bool {
 
 const LINES: &[u8] = b"5 done\n6 made 12 cleared 9\n1000 refused 11\nbad line 9 rule 2\n";
 
-/// Takes so many bytes, and then no more.
-#[derive(Drop)]
-struct Brief {
-    text: Vec<u8>,
-    left: usize,
-}
-
-impl Write for Brief {
-    fn write(&mut self, buf: &[u8]) -> io::Result<usize> {
-        let taken = buf.len().min(self.left);
-        self.text.extend_from_slice(&buf[..taken])?;
-        self.left -= taken;
-        Ok(taken)
-    }
-
-    fn flush(&mut self) -> io::Result<()> {
-        Ok(())
-    }
-}
-
-/// Whether a sink that takes as many bytes as these fails, and has these.
-fn has_beginning(alloc: Global, begin: &[u8]) -> bool {
-    let mut sink = CheckedWriter::new(Brief {
-        text: Vec::new(alloc),
-        left: begin.len(),
-    });
+/// Whether a sink that takes so many bytes of the lines fails, and has these; or takes them all.
+fn has_beginning(left: usize) -> bool {
+    let mut sink = cut_after(LINES, left);
     let put = put_lines(&mut sink);
-    let failed = sink.failed;
-    let same = sink.writer.text.as_slice() == begin;
-    drop(sink);
-    !put && failed && same
+    put == (left == LINES.len()) && sink.failed != put && sink.writer.same && sink.writer.left == 0
 }
 
 #[test]
 fn a_sink_that_fails_has_a_beginning(rt: HostRuntime) {
-    for left in 0..LINES.len() {
-        assert!(rt; has_beginning(rt.alloc(), &LINES[..left]));
+    for left in 0..=LINES.len() {
+        assert!(rt; has_beginning(left), "{left}");
     }
 }
 
-/// Counts the calls, and takes all that it is given.
-#[derive(Drop)]
-struct Counting {
-    calls: u64,
-}
-
-impl Write for Counting {
-    fn write(&mut self, buf: &[u8]) -> io::Result<usize> {
-        self.calls = self.calls.wrapping_add(1);
-        Ok(buf.len())
-    }
-
-    fn flush(&mut self) -> io::Result<()> {
-        Ok(())
-    }
-}
-
-/// Whether a line of 64 bytes is put, and how many calls that takes.
-fn calls() -> (bool, u64) {
-    let mut sink = CheckedWriter::new(Counting { calls: 0 });
+/// How many calls a line of 64 bytes takes.
+fn calls() -> u64 {
+    let mut sink = cut_after(&[], 1_000);
     let bytes = Chunk::of(&[0xC1; 64]);
-    let put = put_event_line(
+    let _ = put_event_line(
         &mut sink,
         5,
         &Ok(ActionResult::Reply(Reply::Shown { bytes })),
     );
-    (put, sink.writer.calls)
-}
-
-#[test]
-fn a_line_is_written_at_once(rt: HostRuntime) {
-    assert!(rt; calls() == (true, 1));
+    sink.writer.calls
 }
 
 /// Whether a refusal is shown so.
-fn is_refusal(alloc: Global, refusal: &Fault, text: &[u8]) -> bool {
-    let mut sink = CheckedWriter::new(Vec::new(alloc));
-    let put = put_refusal(&mut sink, refusal);
-    let same = sink.writer.as_slice() == text;
-    drop(sink);
-    put && same
+fn is_refusal(refusal: &Fault, text: &[u8]) -> bool {
+    let mut sink = cut_after(text, 1_000);
+    put_refusal(&mut sink, refusal) && sink.writer.same && sink.writer.rest.is_empty()
 }
 
 #[test]
-fn refusals_that_no_script_meets_are_shown(rt: HostRuntime) {
+fn a_line_is_written_at_once_and_refusals_that_no_script_meets_are_shown(rt: HostRuntime) {
     let rows: [(Fault, &[u8]); 4] = [
         (Fault::NoMemory, b"refused 1"),
         (Fault::ConfigBad(1), b"refused 8"),
@@ -121,6 +103,7 @@ fn refusals_that_no_script_meets_are_shown(rt: HostRuntime) {
         ),
     ];
     for (refusal, text) in rows {
-        assert!(rt; is_refusal(rt.alloc(), &refusal, text));
+        assert!(rt; is_refusal(&refusal, text));
     }
+    assert!(rt; calls() == 1);
 }

@@ -1,0 +1,28 @@
+# MODIFY SUBCHANNEL by a block of ones, but for LM and MM: parameter, ISC, E, D, LPM and POM are taken; all else is ignored (own).
+storage 10
+path 10
+path C1
+unit 0 block
+sub 0 0100 0 10 C1
+stsch 0 700
+show 700 34
+put 700 FFFFFFFFFF87FFFFFFFFFFFFFFFFFFFFFFFFFFFFFFFFFFFFFFFFFFFFFFFFFFFFFFFFFFFFFFFFFFFFFFFFFFFFFFFFFFFF
+msch 0 700
+stsch 0 740
+show 740 34
+# LPM and POM of single paths; D and E are zero again.
+put 700 1234567818000000200000000000400000000000000000000000000000000000000000000000000000000000000000000000
+msch 0 700
+stsch 0 740
+show 740 34
+# LM and MM are refused, bit by bit.
+put 704 00C00000
+msch 0 700
+put 704 00A00000
+msch 0 700
+put 704 00900000
+msch 0 700
+put 704 00880000
+msch 0 700
+stsch 0 740
+show 740 34

@@ -1,0 +1,25 @@
+# START SUBCHANNEL refuses each bit of an ORB that must be zero: B, bits 26 to 31 of word 1, and bit 0 of word 2.
+storage 10
+path 10
+unit 0 block
+sub 0 0100 0 10
+enable 0 0 0
+put 500 000000000084FF0000001000
+ssch 0 500
+put 500 000000000080FF2000001000
+ssch 0 500
+put 500 000000000080FF1000001000
+ssch 0 500
+put 500 000000000080FF0800001000
+ssch 0 500
+put 500 000000000080FF0400001000
+ssch 0 500
+put 500 000000000080FF0200001000
+ssch 0 500
+put 500 000000000080FF0100001000
+ssch 0 500
+put 500 000000000080FF0080001000
+ssch 0 500
+# L and D stand beside them, and are taken.
+put 500 000000000080FFC000001000
+ssch 0 500
