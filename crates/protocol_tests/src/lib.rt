@@ -1,4 +1,4 @@
-//! Tests of the crates of the protocol: signals, both sides of it, wires, paths, the set-up, and the world of two sides.
+//! Tests of the crates of the protocol: both sides of it, paths, set-ups, and the world of two sides.
 #![tactic(auto)]
 
 #[cfg(test)]

@@ -1,165 +1,397 @@
-//! Programs of one side and of both, with signals that repeat and vanish, and paths that go down.
+//! A world of two sides: a program, signals that vanish, repeat and change places, refusals, and want of memory.
 
 use agree::event::WorldEvent;
+use agree::reply::WorldReply;
 use agree::world::World;
+use chan_model::chunk::Chunk;
 use chan_model::fault::Fault;
 use chan_model::hold_state::HoldPhase;
 use chan_model::names::{Path, Side};
 use chan_model::report::{DeviceAnswer, Report};
+use chan_model::signal::Down;
 use chan_model::unit_state::{Connection, Own};
 use hold::Hold;
 use memory::FailingMemory;
+use scsw_irb::status::DeviceStatus;
 
-/// More requests for room than an event makes.
-const MANY: u64 = 10;
+const SIDE: Side = Side::First;
 
-fn choose(side: Side, path: u8) -> WorldEvent {
+/// What comes of an event.
+#[derive(Clone, Copy, PartialEq, Eq)]
+enum Outcome {
+    /// It is done, and no signal moved.
+    Done,
+    /// A signal was sent.
+    Sent,
+    /// A signal arrived and was taken.
+    Taken,
+    /// A signal arrived, was taken, and one was sent in answer.
+    Answered,
+    /// A signal arrived and was ignored.
+    Ignored,
+    NotSent,
+    NoSuchPath,
+    NotNow,
+    OtherRefusal,
+}
+
+fn outcome_of_arrival(taken: bool, answered: bool) -> Outcome {
+    match (taken, answered) {
+        (false, _) => Outcome::Ignored,
+        (true, false) => Outcome::Taken,
+        (true, true) => Outcome::Answered,
+    }
+}
+
+fn outcome_of_refusal(fault: Fault) -> Outcome {
+    match fault {
+        Fault::NotSent => Outcome::NotSent,
+        Fault::NoSuchPath => Outcome::NoSuchPath,
+        Fault::NotNow => Outcome::NotNow,
+        _ => Outcome::OtherRefusal,
+    }
+}
+
+/// What comes of an event, where there is memory.
+fn comes_of(world: &mut World, event: &WorldEvent) -> Outcome {
+    let reply = world.step(event);
+    match &reply {
+        Ok(WorldReply::Done) => Outcome::Done,
+        Ok(WorldReply::SentDown { .. } | WorldReply::SentUp { .. }) => Outcome::Sent,
+        Ok(WorldReply::Down { taken, sent, .. }) => outcome_of_arrival(*taken, sent.is_some()),
+        Ok(WorldReply::Up { taken, sent, .. }) => outcome_of_arrival(*taken, sent.is_some()),
+        Err(fault) => outcome_of_refusal(*fault),
+    }
+}
+
+/// Whether the same comes of each of these events, one after the other.
+fn come_to(world: &mut World, events: &[WorldEvent], wanted: Outcome) -> bool {
+    let mut all = true;
+    for event in events {
+        all = comes_of(world, event) == wanted && all;
+    }
+    all
+}
+
+fn choose(path: u8) -> WorldEvent {
     WorldEvent::Choose {
-        side,
+        side: SIDE,
         path,
         single_path: false,
     }
 }
 
-fn down(side: Side) -> WorldEvent {
+/// The signal at an index arrives at the unit.
+fn down(index: usize, keep: bool) -> WorldEvent {
     WorldEvent::Down {
-        side,
-        index: 0,
-        keep: false,
+        side: SIDE,
+        index,
+        keep,
         may: true,
     }
 }
 
-fn up(side: Side) -> WorldEvent {
+/// The signal at an index arrives at the hold. Its program waits for a Data and for an End.
+fn up(index: usize, keep: bool) -> WorldEvent {
     WorldEvent::Up {
-        side,
-        index: 0,
-        keep: false,
+        side: SIDE,
+        index,
+        keep,
         may: true,
     }
 }
 
-/// Whether each of the events is accepted.
-fn accepts(world: &mut World, events: &[WorldEvent]) -> bool {
-    let mut all = true;
-    for event in events {
-        all = world.step(event).is_ok() && all;
-    }
-    all
-}
-
-/// Whether a hold takes its program, number 1, to be connected on this path by this connection.
-fn is_held_by(world: &World, side: Side, path: u32, connection: u64) -> bool {
-    match Path::new(path) {
-        Some(path) => Hold::of(world.hold(side)).is_connected(path, 1, connection),
-        None => false,
+fn send(path: u8, signal: Down) -> WorldEvent {
+    WorldEvent::Send {
+        side: SIDE,
+        path,
+        signal,
     }
 }
 
-/// The path that the program that holds the device is connected by.
-fn owned_by(world: &World) -> Option<usize> {
-    let Own::Owned { connection, .. } = world.own() else {
-        return None;
+/// The first command of the first program.
+fn command(code: u8, room: u16) -> Down {
+    Down::Command {
+        number: 1,
+        command: 1,
+        code,
+        room,
+    }
+}
+
+fn took(sequence: u64, room: u16) -> Down {
+    Down::Took {
+        number: 1,
+        command: 1,
+        sequence,
+        room,
+    }
+}
+
+/// One byte of the first chunk of a write.
+fn give(connection: u64) -> Down {
+    Down::Give {
+        number: 1,
+        connection,
+        command: 1,
+        sequence: 1,
+        bytes: Chunk::of(&[7]),
+    }
+}
+
+fn report(sequence: u64, answer: DeviceAnswer) -> WorldEvent {
+    WorldEvent::Report(Report {
+        side: SIDE,
+        number: 1,
+        command: 1,
+        sequence,
+        answer,
+    })
+}
+
+/// Whether both take the first program to be connected on this path, by this connection.
+fn are_connected(world: &World, path: Path, connection: u64) -> bool {
+    let held = Hold::of(world.hold(SIDE)).is_connected(path, 1, connection);
+    match world.own() {
+        Own::Owned {
+            number: 1,
+            connection: Connection::On {
+                path: on,
+                connection: by,
+            },
+            ..
+        } => held && on.same(path) && by == connection,
+        _ => false,
+    }
+}
+
+/// Whether neither has a program, no signal waits, and one program was accepted.
+fn are_free(world: &World) -> bool {
+    let free = matches!(world.hold(SIDE).phase, HoldPhase::Free)
+        && matches!(world.own(), Own::Idle);
+    let none_waits = world.downs_len(SIDE) == 0 && world.ups_len(SIDE) == 0;
+    free && none_waits && world.accepted(SIDE) == [1].as_slice()
+}
+
+/// Whether a program is offered and accepted on this path.
+fn is_offered(world: &mut World, path: u8) -> bool {
+    let sent = come_to(world, &[choose(path)], Outcome::Sent);
+    let accepted = come_to(world, &[down(0, false)], Outcome::Answered);
+    sent && accepted && come_to(world, &[up(0, false)], Outcome::Taken)
+}
+
+/// Whether a signal of a program is sent on path 5, and taken.
+fn is_sent(world: &mut World, signal: Down) -> bool {
+    let sent = come_to(world, &[send(5, signal)], Outcome::Sent);
+    sent && come_to(world, &[down(0, false)], Outcome::Taken)
+}
+
+/// Whether the unit sends what its device answers, and that is taken.
+fn is_reported(world: &mut World, sequence: u64, answer: DeviceAnswer) -> bool {
+    let sent = come_to(world, &[report(sequence, answer)], Outcome::Sent);
+    sent && come_to(world, &[up(0, false)], Outcome::Taken)
+}
+
+/// Whether a read with room for three bytes, and then for one more, brings a chunk of each, and ends.
+fn reads(world: &mut World) -> bool {
+    let commanded = is_sent(world, command(2, 3));
+    let begun = come_to(world, &[report(0, DeviceAnswer::Begins)], Outcome::Done);
+    let first = is_reported(world, 0, DeviceAnswer::Supplied(Chunk::of(&[1, 2, 3])));
+    let first_answered = is_sent(world, took(1, 1));
+    let second = is_reported(world, 1, DeviceAnswer::Supplied(Chunk::of(&[4])));
+    let second_answered = is_sent(world, took(2, 0));
+    let ended = DeviceAnswer::Ended {
+        status: DeviceStatus::end(),
+        more: false,
     };
-    let Connection::On { path, .. } = connection else {
-        return None;
-    };
-    Some(path.index())
+    let end = is_reported(world, 2, ended);
+    commanded && begun && first && first_answered && second && second_answered && end
 }
 
-fn is_free(world: &World, side: Side) -> bool {
-    matches!(world.hold(side).phase, HoldPhase::Free)
+/// Whether the device is let go.
+fn lets_go(world: &mut World) -> bool {
+    let sent = come_to(world, &[WorldEvent::LetGo { side: SIDE }], Outcome::Sent);
+    let released = come_to(world, &[down(0, false)], Outcome::Answered);
+    sent && released && come_to(world, &[up(0, false)], Outcome::Taken)
 }
 
-/// Whether the hold of a side and the unit have no program.
-fn is_let_go(world: &World, side: Side) -> bool {
-    is_free(world, side) && matches!(world.own(), Own::Idle)
-}
-
-/// The number of the Reset that a side is to send, or has sent.
-fn reset_number(world: &World, side: Side) -> Option<u64> {
-    match world.hold(side).phase {
-        HoldPhase::Reset { number } => Some(number),
-        _ => None,
-    }
-}
-
-/// Whether the first program of a side, and no other, was accepted.
-fn is_first_accepted(world: &World, side: Side) -> bool {
-    world.accepted(side) == [1].as_slice()
-}
-
-/// How many signals of a side wait, to the unit and from it.
-fn waiting(world: &World, side: Side) -> (usize, usize) {
-    (world.downs_len(side), world.ups_len(side))
-}
-
-/// Whether a program is chosen on this path, and its Select and the answer to it are taken.
-fn offers(world: &mut World, side: Side, path: u8) -> bool {
-    accepts(world, &[choose(side, path), down(side), up(side)])
-}
-
-/// Whether a program is accepted on path 2, and let go with no signal left.
-fn accepts_and_lets_go(world: &mut World) -> bool {
-    let side = Side::First;
-    let offered = offers(world, side, 2);
-    let held = is_held_by(world, side, 2, 0);
-    let owned = owned_by(world);
-    let released = accepts(world, &[WorldEvent::LetGo { side }, down(side), up(side)]);
-    let let_go = is_let_go(world, side);
-    let accepted = is_first_accepted(world, side);
-    let left = waiting(world, side);
-    offered && held && owned == Some(2) && released && let_go && accepted && left == (0, 0)
+/// Whether a program is offered on path 5, reads and ends, and leaves nothing behind.
+fn goes_through(world: &mut World) -> bool {
+    let path = Path::new(5).unwrap();
+    let offered = is_offered(world, 5) && are_connected(world, path, 0);
+    let read = reads(world) && are_connected(world, path, 0);
+    offered && read && lets_go(world) && are_free(world)
 }
 
 #[test]
-fn a_program_is_accepted_and_let_go(rt: HostRuntime) {
-    let let_go = accepts_and_lets_go(&mut World::new(rt.alloc()));
-    assert!(rt; let_go);
+fn a_program_goes_from_its_first_signal_to_its_last(rt: HostRuntime) {
+    let through = goes_through(&mut World::new(rt.alloc()));
+    assert!(rt; through);
 }
 
-/// Whether a program is offered whose Select arrives twice and is kept.
-fn repeats_select(world: &mut World, side: Side) -> bool {
-    let again = WorldEvent::Down {
-        side,
+/// Whether a Select and the answer to it are taken once, though each arrives twice.
+fn is_accepted_once(world: &mut World) -> bool {
+    let offered = come_to(world, &[choose(1)], Outcome::Sent);
+    let accepted = come_to(world, &[down(0, true)], Outcome::Answered);
+    let heard = come_to(world, &[up(0, true)], Outcome::Taken);
+    let again = [down(0, false), up(0, false)];
+    offered && accepted && heard && come_to(world, &again, Outcome::Ignored)
+}
+
+/// Whether a Command that vanishes and is sent again is taken once, and the device asks for bytes.
+fn asks_though_lost(world: &mut World) -> bool {
+    let sent = come_to(world, &[send(1, command(1, 0))], Outcome::Sent);
+    let lost = WorldEvent::LoseDown {
+        side: SIDE,
         index: 0,
-        keep: true,
-        may: true,
     };
-    accepts(world, &[choose(side, 0), again.copy(), again])
+    let vanished = come_to(world, &[lost], Outcome::Done);
+    let sent_twice = [send(1, command(1, 0)), send(1, command(1, 0))];
+    let sent_again = come_to(world, &sent_twice, Outcome::Sent);
+    let taken = come_to(world, &[down(0, false)], Outcome::Taken);
+    let ignored = come_to(world, &[down(0, false)], Outcome::Ignored);
+    let asked = come_to(world, &[report(0, DeviceAnswer::Begins)], Outcome::Sent);
+    sent && vanished && sent_again && taken && ignored && asked
 }
 
-/// Whether a signal each way vanishes.
-fn loses_both(world: &mut World, side: Side) -> bool {
-    let lost = [
-        WorldEvent::LoseDown { side, index: 0 },
-        WorldEvent::LoseUp { side, index: 0 },
+/// Whether the program leaves its path and is connected on path 6, and its Data, which Leave and Back overtook, is ignored and
+/// vanishes.
+fn comes_back(world: &mut World) -> bool {
+    let left = come_to(world, &[WorldEvent::Leave], Outcome::Sent);
+    let away = come_to(world, &[up(1, false)], Outcome::Taken);
+    let asked = come_to(world, &[WorldEvent::Ask { path: 6 }], Outcome::Sent);
+    let granted = come_to(world, &[up(1, false)], Outcome::Answered);
+    let taken = come_to(world, &[down(0, false)], Outcome::Taken);
+    let older = come_to(world, &[up(0, true)], Outcome::Ignored);
+    let lost = WorldEvent::LoseUp {
+        side: SIDE,
+        index: 0,
+    };
+    let vanished = come_to(world, &[lost], Outcome::Done);
+    left && away && asked && granted && taken && older && vanished
+}
+
+/// Whether a side that is told of a restart sends a Reset, which is taken once, though it arrives twice, and ends the program.
+fn is_reset(world: &mut World) -> bool {
+    let notice = WorldEvent::Notice {
+        side: SIDE,
+        path: 6,
+    };
+    let restarted = come_to(world, &[WorldEvent::Restart], Outcome::Done);
+    let told = come_to(world, &[notice], Outcome::Sent);
+    let heard = come_to(world, &[up(0, false)], Outcome::Taken);
+    let due = matches!(world.hold(SIDE).phase, HoldPhase::Reset { number: 2 });
+    let sent = come_to(world, &[choose(3)], Outcome::Sent);
+    let cleared = come_to(world, &[down(0, true)], Outcome::Answered);
+    let ignored = come_to(world, &[down(0, false)], Outcome::Ignored);
+    let over = come_to(world, &[up(0, false)], Outcome::Taken);
+    restarted && told && heard && due && sent && cleared && ignored && over
+}
+
+/// Whether all this is so of one program, and leaves nothing behind.
+fn survives(world: &mut World) -> bool {
+    let accepted = is_accepted_once(world) && asks_though_lost(world);
+    let back = comes_back(world) && are_connected(world, Path::new(6).unwrap(), 1);
+    accepted && back && is_reset(world) && are_free(world)
+}
+
+#[test]
+fn signals_vanish_and_repeat_and_a_restart_ends_a_program(rt: HostRuntime) {
+    let survived = survives(&mut World::new(rt.alloc()));
+    assert!(rt; survived);
+}
+
+/// Whether events on paths that are not there are refused.
+fn refuses_paths(world: &mut World) -> bool {
+    let side = SIDE;
+    let events = [
+        choose(8),
+        send(8, command(1, 0)),
+        WorldEvent::PathDown { side, path: 8 },
+        WorldEvent::PathUp { side, path: 9 },
+        WorldEvent::PathReset { side, path: 255 },
+        WorldEvent::Ask { path: 8 },
+        WorldEvent::Attention { side, path: 8 },
+        WorldEvent::Notice { side, path: 8 },
     ];
-    accepts(world, &lost)
+    come_to(world, &events, Outcome::NoSuchPath)
 }
 
-/// Whether a program whose Select is repeated is accepted once, and is still offered where the answer to it vanishes.
-fn accepts_once(world: &mut World) -> bool {
-    let side = Side::First;
-    let repeated = repeats_select(world, side);
-    let accepted = is_first_accepted(world, side);
-    let kept = waiting(world, side);
-    let lost = loses_both(world, side);
-    let left = waiting(world, side);
-    let offered = matches!(world.hold(side).phase, HoldPhase::Offer { number: 1, .. });
-    repeated && accepted && kept == (1, 1) && lost && left == (0, 0) && offered
+/// Whether events of signals that were not sent are refused.
+fn refuses_signals(world: &mut World) -> bool {
+    let side = SIDE;
+    let events = [
+        down(0, false),
+        up(0, false),
+        WorldEvent::LoseDown { side, index: 0 },
+        WorldEvent::LoseUp { side, index: 1 },
+    ];
+    come_to(world, &events, Outcome::NotSent)
+}
+
+/// Whether events are refused that cannot be where there is no program, no restart and no path that is down.
+fn refuses_idle(world: &mut World) -> bool {
+    let side = SIDE;
+    let events = [
+        WorldEvent::LetGo { side },
+        WorldEvent::PathUp { side, path: 0 },
+        WorldEvent::Leave,
+        WorldEvent::Ask { path: 0 },
+        WorldEvent::Notice { side, path: 0 },
+        report(0, DeviceAnswer::Begins),
+        send(2, command(1, 0)),
+    ];
+    come_to(world, &events, Outcome::NotNow)
+}
+
+/// Whether a path that is down neither goes down nor is reset.
+fn refuses_path_down(world: &mut World) -> bool {
+    let side = SIDE;
+    let path = 7;
+    let goes_down = come_to(world, &[WorldEvent::PathDown { side, path }], Outcome::Done);
+    let events = [
+        WorldEvent::PathDown { side, path },
+        WorldEvent::PathReset { side, path },
+    ];
+    goes_down && come_to(world, &events, Outcome::NotNow)
+}
+
+/// Whether a program that is connected on path 2 is not offered again, nothing is sent for it by another path or that is not its own,
+/// and no command while it is away.
+fn refuses_to_send(world: &mut World) -> bool {
+    let other = Down::Halt { number: 2 };
+    let events = [
+        send(3, command(1, 0)),
+        send(3, took(0, 1)),
+        send(2, other),
+        send(2, give(1)),
+        send(2, Down::Select { number: 1 }),
+        send(2, Down::Release { number: 1 }),
+        choose(2),
+    ];
+    let connected = is_offered(world, 2) && come_to(world, &events, Outcome::NotNow);
+    let left = come_to(world, &[WorldEvent::Leave], Outcome::Sent);
+    let away = come_to(world, &[up(0, false)], Outcome::Taken);
+    connected && left && away && come_to(world, &[send(2, command(1, 0))], Outcome::NotNow)
+}
+
+/// Whether each event is refused that cannot be.
+fn refuses(world: &mut World) -> bool {
+    let named = refuses_paths(world) && refuses_signals(world);
+    let idle = refuses_idle(world) && refuses_path_down(world);
+    named && idle && refuses_to_send(world)
 }
 
 #[test]
-fn a_repeated_select_is_accepted_once(rt: HostRuntime) {
-    let once = accepts_once(&mut World::new(rt.alloc()));
-    assert!(rt; once);
+fn what_cannot_be_is_refused(rt: HostRuntime) {
+    let refused = refuses(&mut World::new(rt.alloc()));
+    assert!(rt; refused);
 }
 
 /// How many requests for room an event makes: it is refused each in turn, and then accepted. A list keeps the room that it was
-/// given before another was refused it.
+/// given before another was refused it. No event makes ten.
 fn requests_of(world: &mut World, event: &WorldEvent) -> Option<u64> {
-    for left in 0..MANY {
+    for left in 0..10 {
         let mut supply = FailingMemory {
             left,
             refused: false,
@@ -176,319 +408,33 @@ fn requests_of(world: &mut World, event: &WorldEvent) -> Option<u64> {
     None
 }
 
-/// Whether an offer makes one request, its acceptance two, and the answer to it none.
+/// Whether an offer makes one request, its acceptance two, and the answer to it none, after which both are connected.
 fn makes_few_requests(world: &mut World) -> bool {
-    let side = Side::First;
-    let offer = requests_of(world, &choose(side, 2));
-    let accept = requests_of(world, &down(side));
-    let heard = requests_of(world, &up(side));
-    let held = is_held_by(world, side, 2, 0);
-    offer == Some(1) && accept == Some(2) && heard == Some(0) && held
+    let offer = requests_of(world, &choose(2));
+    let accept = requests_of(world, &down(0, false));
+    let heard = requests_of(world, &up(0, false));
+    let few = offer == Some(1) && accept == Some(2) && heard == Some(0);
+    few && are_connected(world, Path::new(2).unwrap(), 0)
 }
 
-#[test]
-fn each_request_of_an_event_is_refused_in_turn(rt: HostRuntime) {
-    let few = makes_few_requests(&mut World::new(rt.alloc()));
-    assert!(rt; few);
-}
-
-/// Whether a program leaves path 1 and comes back on path 6, which the unit knows once it is granted.
-fn comes_back(world: &mut World) -> bool {
-    let side = Side::First;
-    let offered = offers(world, side, 1);
-    let left = accepts(world, &[WorldEvent::Leave, up(side)]);
-    let away = matches!(world.hold(side).phase, HoldPhase::Away { number: 1 });
-    let asked = accepts(world, &[WorldEvent::Ask { path: 6 }, up(side)]);
-    let held = is_held_by(world, side, 6, 1);
-    let owned_before = owned_by(world);
-    let granted = accepts(world, &[down(side)]);
-    let owned = owned_by(world);
-    offered && left && away && asked && held && owned_before == None && granted && owned == Some(6)
-}
-
-#[test]
-fn a_program_comes_back_on_another_path(rt: HostRuntime) {
-    let back = comes_back(&mut World::new(rt.alloc()));
-    assert!(rt; back);
-}
-
-/// Whether the unit is restarted, and a side is told so by this path.
-fn restarts(world: &mut World, side: Side, path: u8) -> bool {
-    let told = [
-        WorldEvent::Restart,
-        WorldEvent::Notice { side, path },
-        up(side),
-    ];
-    accepts(world, &told)
-}
-
-/// Whether a Reset is due from when a side is told of a restart until it is answered.
-fn resets_after_restart(world: &mut World) -> bool {
-    let side = Side::First;
-    let offered = offers(world, side, 3);
-    let told = restarts(world, side, 3);
-    let due = reset_number(world, side);
-    let sent = accepts(world, &[choose(side, 3), down(side)]);
-    let still_due = reset_number(world, side);
-    let answered = accepts(world, &[up(side)]);
-    let let_go = is_let_go(world, side);
-    offered && told && due == Some(2) && sent && still_due == Some(2) && answered && let_go
-}
-
-#[test]
-fn a_restart_ends_by_a_reset(rt: HostRuntime) {
-    let reset = resets_after_restart(&mut World::new(rt.alloc()));
-    assert!(rt; reset);
-}
-
-/// Whether a side clears its program, and its Reset is sent on this path and taken.
-fn clears(world: &mut World, side: Side, path: u8) -> bool {
-    let clear = WorldEvent::Clear { side };
-    accepts(world, &[clear, choose(side, path), down(side)])
-}
-
-/// Whether a side whose program is held has it still, though the other offers one and clears it.
-fn holds_beside_other(world: &mut World) -> bool {
-    let offered = offers(world, Side::First, 0);
-    let refused = is_refused_other(world);
-    let cleared = clears(world, Side::Second, 7);
-    let due = reset_number(world, Side::Second);
-    let owned = owned_by(world);
-    let answered = accepts(world, &[up(Side::Second)]);
-    let free = is_free(world, Side::Second);
-    let held = is_held_by(world, Side::First, 0, 0);
-    offered && refused && cleared && due == Some(2) && owned == Some(0) && answered && free && held
-}
-
-/// Whether the second side offers a program that is not accepted.
-fn is_refused_other(world: &mut World) -> bool {
-    let offered = offers(world, Side::Second, 0);
-    let refused = is_free(world, Side::Second);
-    offered && refused && world.accepted(Side::Second).is_empty()
-}
-
-#[test]
-fn one_side_at_a_time_holds_the_device(rt: HostRuntime) {
-    let held = holds_beside_other(&mut World::new(rt.alloc()));
-    assert!(rt; held);
-}
-
-/// Whether a program is chosen on a path that goes down then: its Select vanishes, and a Reset is due in its stead.
-fn is_lost_with_path(world: &mut World, side: Side, path: u8) -> bool {
-    let path_down = WorldEvent::PathDown { side, path };
-    let lost = accepts(world, &[choose(side, path), path_down]);
-    lost && world.downs_len(side) == 0 && reset_number(world, side) == Some(2)
-}
-
-/// Whether nothing is sent on a path that is down.
-fn sends_nothing(world: &mut World, side: Side, path: u8) -> bool {
-    let chosen = accepts(world, &[choose(side, path)]);
-    chosen && world.downs_len(side) == 0
-}
-
-/// Whether the Reset is sent when the path is up again.
-fn sends_when_up(world: &mut World, side: Side, path: u8) -> bool {
-    let path_up = WorldEvent::PathUp { side, path };
-    let chosen = accepts(world, &[path_up, choose(side, path)]);
-    chosen && world.downs_len(side) == 1
-}
-
-/// Whether a path that is reset takes the Reset with it, and another is due.
-fn is_lost_with_reset(world: &mut World, side: Side, path: u8) -> bool {
-    let lost = accepts(world, &[WorldEvent::PathReset { side, path }]);
-    lost && world.downs_len(side) == 0 && reset_number(world, side) == Some(3)
-}
-
-/// Whether path 4 of the second side takes a Select and then a Reset with it, and a reset of the subsystem makes one due for each side.
-fn loses_signals(world: &mut World) -> bool {
-    let side = Side::Second;
-    let select_lost = is_lost_with_path(world, side, 4);
-    let nothing_sent = sends_nothing(world, side, 4);
-    let sent = sends_when_up(world, side, 4);
-    let reset_lost = is_lost_with_reset(world, side, 4);
-    let reset = accepts(world, &[WorldEvent::SubsystemReset]);
-    let first_due = reset_number(world, Side::First);
-    let due = reset_number(world, side);
-    select_lost
-        && nothing_sent
-        && sent
-        && reset_lost
-        && reset
-        && first_due == Some(1)
-        && due == Some(4)
-}
-
-#[test]
-fn a_path_that_goes_down_takes_its_signals(rt: HostRuntime) {
-    let lost = loses_signals(&mut World::new(rt.alloc()));
-    assert!(rt; lost);
-}
-
-/// Whether an idle unit asks for attention by a signal that is answered by one.
-fn asks_for_attention(world: &mut World) -> bool {
-    let side = Side::First;
-    let asked = accepts(world, &[WorldEvent::Attention { side, path: 5 }, up(side)]);
-    let sent = world.downs_len(side);
-    let answered = accepts(world, &[down(side)]);
-    asked && sent == 1 && answered && world.downs_len(side) == 0
-}
-
-#[test]
-fn an_idle_unit_asks_for_attention(rt: HostRuntime) {
-    let asked = asks_for_attention(&mut World::new(rt.alloc()));
-    assert!(rt; asked);
-}
-
-/// Whether each of the events is refused because there is no such path.
-fn are_no_paths(world: &mut World, events: &[WorldEvent]) -> bool {
-    let mut all = true;
-    for event in events {
-        all = matches!(world.step(event), Err(Fault::NoSuchPath)) && all;
-    }
-    all
-}
-
-/// Whether each of the events is refused because its signal was not sent.
-fn are_not_sent(world: &mut World, events: &[WorldEvent]) -> bool {
-    let mut all = true;
-    for event in events {
-        all = matches!(world.step(event), Err(Fault::NotSent)) && all;
-    }
-    all
-}
-
-/// Whether each of the events is refused because it cannot be now.
-fn are_not_now(world: &mut World, events: &[WorldEvent]) -> bool {
-    let mut all = true;
-    for event in events {
-        all = matches!(world.step(event), Err(Fault::NotNow)) && all;
-    }
-    all
-}
-
-/// Whether events whose paths are out of range are refused.
-fn refuses_paths(world: &mut World, side: Side) -> bool {
-    let events = [
-        choose(side, 8),
-        WorldEvent::PathDown { side, path: 8 },
-        WorldEvent::PathUp { side, path: 9 },
-        WorldEvent::PathReset { side, path: 255 },
-        WorldEvent::Ask { path: 8 },
-        WorldEvent::Attention { side, path: 8 },
-        WorldEvent::Notice { side, path: 8 },
-    ];
-    are_no_paths(world, &events)
-}
-
-/// Whether events of signals that were not sent are refused.
-fn refuses_signals(world: &mut World, side: Side) -> bool {
-    let events = [
-        down(side),
-        up(side),
-        WorldEvent::LoseDown { side, index: 0 },
-        WorldEvent::LoseUp { side, index: 1 },
-    ];
-    are_not_sent(world, &events)
-}
-
-/// Whether events are refused that cannot be while no program holds the device.
-fn refuses_idle(world: &mut World, side: Side) -> bool {
-    let events = [
-        WorldEvent::LetGo { side },
-        WorldEvent::PathUp { side, path: 0 },
-        WorldEvent::Leave,
-        WorldEvent::Ask { path: 0 },
-        WorldEvent::Notice { side, path: 0 },
-        WorldEvent::Report(Report {
-            side,
-            number: 1,
-            command: 1,
-            sequence: 0,
-            answer: DeviceAnswer::Begins,
-        }),
-    ];
-    are_not_now(world, &events)
-}
-
-/// Whether a second choice is refused before the first is answered.
-fn refuses_second_choice(world: &mut World, side: Side) -> bool {
-    let chosen = accepts(world, &[choose(side, 0)]);
-    chosen && are_not_now(world, &[choose(side, 0)])
-}
-
-/// Whether a path that is down is not brought down or reset.
-fn refuses_path_down(world: &mut World, side: Side) -> bool {
-    let down_once = accepts(world, &[WorldEvent::PathDown { side, path: 7 }]);
-    let events = [
-        WorldEvent::PathDown { side, path: 7 },
-        WorldEvent::PathReset { side, path: 7 },
-    ];
-    down_once && are_not_now(world, &events)
-}
-
-/// Whether each event is refused that cannot be.
-fn refuses(world: &mut World) -> bool {
-    let side = Side::First;
-    let paths_refused = refuses_paths(world, side);
-    let signals_refused = refuses_signals(world, side);
-    let idle_refused = refuses_idle(world, side);
-    let choice_refused = refuses_second_choice(world, side);
-    let path_refused = refuses_path_down(world, side);
-    paths_refused && signals_refused && idle_refused && choice_refused && path_refused
-}
-
-#[test]
-fn what_cannot_be_is_refused(rt: HostRuntime) {
-    let refused = refuses(&mut World::new(rt.alloc()));
-    assert!(rt; refused);
-}
-
-/// Whether a run passes over events that are refused.
-fn passes_over(world: &mut World) -> bool {
-    let side = Side::Second;
-    let run = world
-        .run(&[
-            WorldEvent::LetGo { side },
-            choose(side, 5),
-            up(side),
-            down(side),
-            choose(side, 9),
-            up(side),
-        ])
-        .is_ok();
-    let held = is_held_by(world, side, 5, 0);
-    run && held && is_first_accepted(world, side)
-}
-
-#[test]
-fn a_run_passes_over_what_is_refused(rt: HostRuntime) {
-    let passed_over = passes_over(&mut World::new(rt.alloc()));
-    assert!(rt; passed_over);
-}
-
-/// Whether this event is accepted fifteen hundred times.
-fn repeats(world: &mut World, event: &WorldEvent) -> bool {
-    let mut all = true;
-    for _ in 0..1500 {
-        all = world.step(event).is_ok() && all;
-    }
-    all
-}
-
-/// Whether fifteen hundred signals of one side are kept, and a run goes on behind them.
+/// Whether fifteen hundred signals are sent and kept, one by one, and a run goes on behind them.
 fn keeps_signals(world: &mut World) -> bool {
-    let side = Side::First;
-    let asked = repeats(world, &WorldEvent::Attention { side, path: 1 });
-    let kept = world.ups_len(side);
-    let others = world.ups_len(Side::Second);
-    let run = world
-        .run(&[WorldEvent::Restart, WorldEvent::Attention { side, path: 1 }])
-        .is_ok();
-    asked && kept == 1500 && others == 0 && run
+    let attention = WorldEvent::Attention {
+        side: SIDE,
+        path: 1,
+    };
+    let mut sent = true;
+    for _ in 0..1500 {
+        sent = comes_of(world, &attention) == Outcome::Sent && sent;
+    }
+    let kept = world.ups_len(SIDE) == 1500;
+    let run = world.run(&[WorldEvent::Restart, attention]).is_ok();
+    sent && kept && run
 }
 
 #[test]
-fn more_than_a_thousand_signals_are_kept(rt: HostRuntime) {
+fn room_is_asked_for_and_there_is_enough(rt: HostRuntime) {
+    let few = makes_few_requests(&mut World::new(rt.alloc()));
     let kept = keeps_signals(&mut World::new(rt.alloc()));
-    assert!(rt; kept);
+    assert!(rt; few && kept);
 }
