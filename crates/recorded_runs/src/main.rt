@@ -9,6 +9,8 @@
 //! `firmware-ipl.run` is recorded from QEMU's boot firmware for s390x: it recognizes its devices, and loads a program by one START
 //! SUBCHANNEL. `linux-recognition.run` is recorded from Debian's Linux 6.1: it recognizes three devices. `altered.run` is a beginning of
 //! the first with two answers altered, and `unreadable.run` one with a line that has no answer: they show what is told of such.
+//! `long-lists.run` is not recorded but reckoned from the manual's rules: reads by lists of four indirect words, of more bytes than a
+//! device of a script has.
 #![tactic(auto)]
 
 mod acts;
