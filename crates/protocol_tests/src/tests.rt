@@ -6,3 +6,4 @@ mod chan_model_tests;
 mod channel_config_tests;
 mod hold_tests;
 mod unit_tests;
+mod wires_tests;
