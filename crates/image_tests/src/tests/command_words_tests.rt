@@ -1,5 +1,4 @@
-//! Words that name no command, with what `clap` is known to say of them. That there is no memory for such a text, the tests of `chsim`
-//! show.
+//! Words that name no command, with what `clap` is known to say of them. That there is no memory for such a text, `tools/failing` shows.
 
 use command_words::{Refused, command_of};
 use memory::Allocator;

@@ -1,5 +1,5 @@
 //! Readers and writers that move a few bytes a call, of which the first is interrupted, and fail at one. What a program does as they
-//! fail at each of its calls, and as room for a text is refused, the tests of `chsim` show.
+//! fail at each of its calls, and as room for a text is refused, `tools/failing` shows.
 
 use std::alloc::Global;
 use std::io;
