@@ -149,20 +149,29 @@ fn report(sequence: u64, answer: DeviceAnswer) -> WorldEvent {
     })
 }
 
-/// Whether both take the first program to be connected on this path, by this connection.
-fn are_connected(world: &World, path: Path, connection: u64) -> bool {
-    let held = Hold::of(world.hold(SIDE)).is_connected(path, 1, connection);
-    match world.own() {
-        Own::Owned {
-            number: 1,
-            connection: Connection::On {
-                path: on,
-                connection: by,
-            },
-            ..
-        } => held && on.same(path) && by == connection,
+/// Whether a program is connected on this path, by this connection.
+fn is_on(connection: &Connection, path: Path, by: u64) -> bool {
+    match connection {
+        Connection::On {
+            path: on,
+            connection,
+        } => on.same(path) && *connection == by,
         _ => false,
     }
+}
+
+/// Whether both take the first program to be connected on this path, by this connection.
+fn are_connected(world: &World, path: Path, by: u64) -> bool {
+    let held = Hold::of(world.hold(SIDE)).is_connected(path, 1, by);
+    let Own::Owned {
+        number,
+        connection,
+        ..
+    } = world.own()
+    else {
+        return false;
+    };
+    held && number == 1 && is_on(&connection, path, by)
 }
 
 /// Whether neither has a program, no signal waits, and one program was accepted.
