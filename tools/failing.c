@@ -76,6 +76,15 @@ __attribute__((destructor)) static void end(void)
     int length = snprintf(text, sizeof text, "%lu %lu %lu %lu\n", reads, writes, requests, refused);
     if (counts >= 0 && length > 0)
         syscall(SYS_write, counts, text, (size_t)length);
+    counts = -1;
+}
+
+/* The program may end so, of which destructors are not told. */
+void _exit(int status)
+{
+    end();
+    for (;;)
+        syscall(SYS_exit_group, status);
 }
 
 ssize_t read(int file, void *bytes, size_t length)
@@ -98,6 +107,11 @@ ssize_t write(int file, const void *bytes, size_t length)
         return -1;
     }
     return syscall(SYS_write, file, bytes, length < most ? length : most);
+}
+
+ssize_t __write(int file, const void *bytes, size_t length)
+{
+    return write(file, bytes, length);
 }
 
 /* The first piece that is not empty, as a system may that gives or takes less than was asked for. */
