@@ -22,6 +22,7 @@ BAD = {
     b"storage 10\npathdown 100\npathdown 10\r\n": "bad line 3 rule 3",
     b"storage 10\n" + b"#\n" * 7 + b"storage\n": "bad line 9 rule 2",
     b"storage 10\n" + b"#" * 1025 + b"\ndev 0\n": "bad line 2 rule 3",
+    b"storage 10\n" + b"".join(b"unit %X block\n" % unit for unit in range(0x401)): "bad line 1026 rule 5",
 }
 
 # The same of those that are no scripts because of a race: where it may be in a text, and where not.
