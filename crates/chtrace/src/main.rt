@@ -1,6 +1,7 @@
 //! `chtrace`: explains a script for a channel subsystem, which it reads from standard input.
 #![tactic(auto)]
 
+ghost use Rattle.std.specs.IoError.{error_kind};
 ghost use Rattle.std.specs.Prelude.{◌≡◌};
 ghost use Rattle.std.specs.Process as process_spec;
 ghost use Rattle.chtrace.specs.Outcomes as outcome_spec;
@@ -11,17 +12,28 @@ mod views;
 use crate::outcome::Outcome;
 use crate::views::{show_due, show_script, show_words, talk_on};
 use memory::Allocator;
-use std::env;
+use std::io::ErrorKind;
 use std::process::ExitCode;
+use std::{env, io};
 use trace_words::{Refused, View, read_words};
 
 /// The program's words, or how it ends where it cannot have them.
 fn words_of(rt: &HostRuntime) -> Result<Vec<String>, Outcome> {
     let mut words = Vec::new(rt.alloc());
-    for word in env::args(rt).map_err(|_| Outcome::NoWords)? {
+    for word in env::args(rt).map_err(without_words)? {
         words.push(word).map_err(|_| Outcome::NoMemory)?;
     }
     Ok(words)
+}
+
+/// How the program ends for want of its words.
+fn without_words(error: io::Error) -> Outcome
+    ensures kind { result ≡ outcome_spec.without_words (error_kind error) }
+{
+    match error.kind() {
+        ErrorKind::InvalidData => Outcome::NotUtf8,
+        _ => Outcome::NoMemory,
+    }
 }
 
 /// What is told in place of a view: help on standard output, what is wrong with the words on standard error.

@@ -18,9 +18,9 @@ pub enum Outcome {
     Unread,
     /// Standard output could not be written.
     Unwritten,
-    /// The program's words are not UTF-8, or there was no memory for them.
-    NoWords,
-    /// There was no memory.
+    /// A word of the program is not UTF-8.
+    NotUtf8,
+    /// There was no memory, for the program's words or later.
     NoMemory,
     /// The records of the line of this number do not account for what moved.
     Unbalanced(u64),
@@ -49,7 +49,7 @@ impl Outcome {
             Outcome::Done { refused: false } => 0,
             Outcome::Done { refused: true }
             | Outcome::Unwritten
-            | Outcome::NoWords
+            | Outcome::NotUtf8
             | Outcome::NoMemory => 1,
             Outcome::WrongWords | Outcome::Bad | Outcome::Unread => 2,
             Outcome::Unbalanced(_) | Outcome::AuditFailed => 3,
@@ -64,7 +64,7 @@ impl Outcome {
             Outcome::Done { .. } | Outcome::WrongWords | Outcome::Bad => None,
             Outcome::Unread => Some("chtrace: standard input could not be read"),
             Outcome::Unwritten => Some("chtrace: standard output could not be written"),
-            Outcome::NoWords => Some("chtrace: the words are not UTF-8"),
+            Outcome::NotUtf8 => Some("chtrace: the words are not UTF-8"),
             Outcome::NoMemory => Some("chtrace: there is no memory"),
             Outcome::Unbalanced(_) => Some("chtrace: the records do not account for what moved"),
             Outcome::AuditFailed => Some("chtrace: the audit failed"),
