@@ -1,9 +1,9 @@
 /* Lets calls of the system fail, for tools/failing: preloaded into a program, it has standard input give, and standard output take, at
- * most so many bytes a call, lets their calls fail from one on, and refuses the program requests for memory. As the program ends it
+ * most so many bytes a call, lets one of their calls fail, and refuses the program requests for memory. As the program ends it
  * writes how many there were of each to a file.
  *
  *     FAILING_MOST      how many bytes a call gives or takes at most
- *     FAILING_READ      the number of the first read that fails, from 1; those that follow fail too
+ *     FAILING_READ      the number of the read that fails, from 1; those that follow would not
  *     FAILING_WRITE     the same of a write
  *     FAILING_MEMORY    the number of the first request that is refused
  *     FAILING_REQUESTS  how many are refused then; where nothing is said, all that follow
@@ -91,7 +91,7 @@ ssize_t read(int file, void *bytes, size_t length)
 {
     if (file != STDIN_FILENO)
         return syscall(SYS_read, file, bytes, length);
-    if (++reads >= failing_read && failing_read != 0) {
+    if (++reads == failing_read) {
         errno = EIO;
         return -1;
     }
@@ -102,7 +102,7 @@ ssize_t write(int file, const void *bytes, size_t length)
 {
     if (file != STDOUT_FILENO)
         return syscall(SYS_write, file, bytes, length);
-    if (++writes >= failing_write && failing_write != 0) {
+    if (++writes == failing_write) {
         errno = EIO;
         return -1;
     }

@@ -35,7 +35,7 @@ code_size address = if address == 0 then 12 else 8
 abbrev pub code_check : Contents → ℕ → ℕ → Result (Unit {0}) StorageFault
 code_check storage cpu address = operand_check storage cpu (code_address address) (code_size address) 4
 
--- the subsystem-identification word and the parameter; at 188 and beyond the interruption-identification word too
+-- the subsystem-identification word and the parameter; with address 0 the interruption-identification word too, at 192
 abbrev pub code_words : ℕ → IntCode → List ℕ
 code_words address code = if address == 0 then map word_of (code_tables code) else take 2 (map word_of (code_tables code))
 

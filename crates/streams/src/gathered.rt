@@ -12,7 +12,8 @@ use std::io::Write;
 const ROOM: usize = 8192;
 
 /// A writer that is given nothing until much was put: what is put is gathered in a room of its own, and is passed on when more does
-/// not fit there, at the end, and where all is dropped. What the writer does not take stays gathered.
+/// not fit there, at the end, and where all is dropped. What the writer does not take stays gathered, and a writer that failed is
+/// given nothing more.
 pub struct Gathered<W: Write + Drop> {
     writer: W,
     room: [u8; ROOM],
@@ -49,13 +50,18 @@ impl<W: Write + Drop> Gathered<W> {
         self.length = end;
     }
 
-    /// Passes on what is gathered. What the writer does not take stays.
+    /// Passes on what is gathered, to a writer that has not failed. What it does not take stays.
     fn pass_on(&mut self) -> bool
         ensures kept { Keeps (held (W.contents self.old.writer) self.old.length self.old.room) (held (W.contents self.new.writer) self.new.length self.new.room) }
         ensures nothing { result ≡ true → self.new.length ≡ 0 }
-        ensures whole { result ≡ true → self.new.failed ≡ self.old.failed }
+        ensures whole { result ≡ true → self.old.failed ≡ false }
+        ensures well { result ≡ true → self.new.failed ≡ false }
         ensures failed { result ≡ false → self.new.failed ≡ true }
+        ensures writer { self.old.failed ≡ true → self.new ≡ self.old }
     {
+        if self.failed {
+            return false;
+        }
         let length = self.length;
         let taken = put_all(&mut self.writer, &self.room[..length]);
         if taken >= length {
@@ -99,12 +105,23 @@ impl<W: Write + Drop> Gathered<W> {
         true
     }
 
-    /// Passes on what is gathered, and answers whether all that was put is written.
+    /// Passes on what is gathered, and answers whether all that was put is written. Where it is not, the writer has failed.
     pub fn finish(&mut self) -> bool
         ensures kept { Keeps (held (W.contents self.old.writer) self.old.length self.old.room) (held (W.contents self.new.writer) self.new.length self.new.room) }
         ensures nothing { result ≡ true → self.new.length ≡ 0 }
+        ensures whole { result ≡ true → self.old.failed ≡ false }
+        ensures well { result ≡ true → self.new.failed ≡ false }
+        ensures failed { result ≡ false → self.new.failed ≡ true }
+        ensures writer { self.old.failed ≡ true → self.new ≡ self.old }
     {
-        self.pass_on() && self.writer.flush().is_ok()
+        if !self.pass_on() {
+            return false;
+        }
+        if self.writer.flush().is_ok() {
+            return true;
+        }
+        self.failed = true;
+        false
     }
 }
 
