@@ -17,7 +17,7 @@ import sys
 from typing import Dict, List, Optional, Tuple
 
 from filuvamoth import WIRE_FULL, Due, Machine, Refused, Turn
-from play import Player, is_as_wanted
+from play import Player
 
 #: How many events are accepted before the last ones, how many are drawn for them at most, and how many of each kind there are to be.
 EVENTS, DRAWN, LEAST, SEED = 1_000_000, 20_000_000, 100, 2026
@@ -138,11 +138,11 @@ def of_unit(draws: Draws) -> str:
 def of_operator(draws: Draws) -> str:
     """Paths come up more often than they go down, and the channel subsystem is reset now and then."""
     kind = draws.below(256)
-    if kind < 1:
+    if kind < 4:
         return "sysreset"
-    if kind < 9:
+    if kind < 28:
         return f"restart {draws.unit()}"
-    return f"{'pathdown' if kind < 25 else 'pathreset' if kind < 128 else 'pathup'} {draws.chpid()}"
+    return f"{'pathdown' if kind < 44 else 'pathreset' if kind < 128 else 'pathup'} {draws.chpid()}"
 
 
 def outside(draws: Draws) -> str:
@@ -150,9 +150,9 @@ def outside(draws: Draws) -> str:
     kind = draws.below(8)
     if kind == 0:
         return f"choose {draws.subchannel()}"
-    if kind < 3:
-        return f"{('up', 'down')[kind - 1]} {draws.subchannel()} {draws.below(2)}"
-    if kind == 3:
+    if kind == 1:
+        return f"{('up', 'down')[draws.below(2)]} {draws.subchannel()} {draws.below(2)}"
+    if kind == 2:
         return at_storage(draws)
     return of_unit(draws) if kind < 6 else of_operator(draws)
 
@@ -229,33 +229,36 @@ class Storm:
 
     # -- lines
 
-    def add(self, line: str, came: str) -> str:
-        """One line more, with what came of it, which is what the history has of it where it is accepted: what that is."""
-        if came.startswith("refused "):
-            self.refused += 1
-        else:
-            reply = self.machine.history_reply(self.accepted)
-            must(came == reply or is_as_wanted(came, reply), f"{line} is answered {came}, and the history has {reply}")
-            came = reply
-            self.accepted += 1
-            self.kinds[kind_of(line)] += 1
+    def keep(self, line: str, answer: str) -> str:
+        """One line more, with its answer."""
         self.lines.append(line)
-        self.answers.append(self.texts.setdefault(came, came))
-        return came
+        self.answers.append(self.texts.setdefault(answer, answer))
+        return answer
+
+    def accept(self, line: str) -> str:
+        """One line more that was accepted: its answer, as the history has it."""
+        answer = self.machine.history_reply(self.accepted)
+        self.accepted += 1
+        self.kinds[kind_of(line)] += 1
+        return self.keep(line, answer)
 
     def enter(self, line: str, by: Optional[str] = None) -> str:
-        """Enters a line, by a way that is drawn where none is said: what came of it."""
+        """Enters a line, by a way that is drawn where none is said: its answer, which is what the history has where it is accepted."""
         data = line.encode()
         self.player.by = by or ("lines", "calls", "value")[self.draws.below(3)]
         came = self.player.act(data, data.split(b" "), False)
         must(came is not None, f"{line} is answered nothing")
-        return self.add(line, came or "")
+        if came is None or came.startswith("refused "):
+            self.refused += 1
+            return self.keep(line, came or "")
+        answer = self.accept(line)
+        # What a call of its own does not tell is the name of a signal.
+        must(came == answer or answer.startswith(came[:-1]) and came[-2:] == " *", f"{line}: {came}, and the history has {answer}")
+        return answer
 
     def glance(self, subchannel: int) -> None:
         """A look is no event, but a line."""
-        line = f"glance {subchannel}"
-        self.lines.append(line)
-        self.answers.append(self.player.glance([b"%d" % subchannel]))
+        self.keep(f"glance {subchannel}", self.player.glance([b"%d" % subchannel]))
 
     def test(self, line: str) -> None:
         """Enters a TEST SUBCHANNEL of a CPU, and looks before and after it."""
@@ -265,92 +268,100 @@ class Storm:
         self.statuses.tested(subchannel, came, before, self.machine.serials(0x10000 + subchannel))
         self.glance(subchannel)
 
-    # -- what is due
+    # -- what is due: whether there was anything
 
-    def turned(self) -> None:
+    def turned(self) -> bool:
         """A turn was done: its line is that of the history, which has a report where a script has the turn of a device."""
-        line, reply = self.machine.history_line(self.accepted), self.machine.history_reply(self.accepted)
+        line = self.machine.history_line(self.accepted)
         words = line.split(" ")
-        self.add(f"dev {words[1]}" if words[0] == "report" else line, reply)
+        self.accept(f"dev {words[1]}" if words[0] == "report" else line)
+        return True
 
-    def turn_subchannel(self, subchannel: int) -> None:
+    def turn_subchannel(self, subchannel: int) -> bool:
         try:
-            if self.machine.turn_subchannel(0x10000 + subchannel) == Turn.TURNED:
-                self.turned()
+            return self.machine.turn_subchannel(0x10000 + subchannel) == Turn.TURNED and self.turned()
         except Refused as error:
             must(error.number == WIRE_FULL, f"a turn of subchannel {subchannel}: {error}")
+            return False
 
-    def turn_unit(self, unit: int) -> None:
+    def turn_unit(self, unit: int) -> bool:
         try:
             turn = self.machine.turn_unit(unit)
         except Refused as error:
             must(error.number == WIRE_FULL, f"a turn of unit {unit}: {error}")
-            return
-        if turn == Turn.TURNED:
-            self.turned()
-        elif turn == Turn.DEVICE_CALLED:
+            return False
+        if turn == Turn.DEVICE_CALLED:
             self.enter(f"dev {unit}")
+            return True
+        return turn == Turn.TURNED and self.turned()
 
-    def take_up(self, subchannel: int) -> None:
+    def take(self, signals: List[str]) -> bool:
+        """One of the signals that wait, by the lines that take them."""
+        if signals:
+            self.enter(signals[self.draws.below(len(signals))])
+        return bool(signals)
+
+    def take_up(self, subchannel: int) -> bool:
         """A signal that waits for a subchannel, on any of its paths."""
-        found = [path for path, count in enumerate(self.machine.wires(0x10000 + subchannel).up) if count]
-        if found:
-            self.enter(f"up {subchannel} {found[self.draws.below(len(found))]}")
+        waiting = self.machine.wires(0x10000 + subchannel).up
+        return self.take([f"up {subchannel} {path}" for path, count in enumerate(waiting) if count])
 
-    def take_down(self, unit: int) -> None:
+    def take_down(self, unit: int) -> bool:
         """The same for a unit, on any path of its subchannels."""
-        found = [
-            f"down {subchannel} {path}"
-            for subchannel in OF_UNIT[unit]
-            for path, count in enumerate(self.machine.wires(0x10000 + subchannel).down)
-            if count
-        ]
-        if found:
-            self.enter(found[self.draws.below(len(found))])
+        waiting = [(subchannel, self.machine.wires(0x10000 + subchannel).down) for subchannel in OF_UNIT[unit]]
+        return self.take([f"down {it} {path}" for it, counts in waiting for path, count in enumerate(counts) if count])
 
-    def look_at_unit(self, unit: int) -> None:
+    def look_at_unit(self, unit: int) -> bool:
         due = self.machine.due(unit)
+        if due == Due.REPORT:
+            return self.turn_unit(unit)
         if due == Due.CALL:
             self.enter(f"dev {unit}")
-        elif due == Due.REPORT:
-            self.turn_unit(unit)
         elif due == Due.AWAY:
             self.enter(f"ask {unit} {self.machine.away_path(unit)}")
         else:
-            self.take_down(unit)
+            return self.take_down(unit)
+        return True
 
-    def at_unit(self, unit: int) -> None:
+    def at_subchannel(self, subchannel: int) -> bool:
+        """By a turn, or by looks at what waits."""
+        return self.take_up(subchannel) if self.draws.below(2) else self.turn_subchannel(subchannel)
+
+    def at_unit(self, unit: int) -> bool:
+        """The same. An answer of a device that waits comes first, as it does in a script."""
         if unit in self.player.waiting:
             self.enter(f"dev {unit}")
-        elif self.draws.below(2):
-            self.turn_unit(unit)
-        else:
-            self.look_at_unit(unit)
+            return True
+        return self.look_at_unit(unit) if self.draws.below(2) else self.turn_unit(unit)
+
+    def follow(self, subchannel: int) -> None:
+        """What is due at a subchannel and at its unit, some times or until nothing is."""
+        unit = next(unit for unit, subchannels in enumerate(OF_UNIT) if subchannel in subchannels)
+        for _ in range(1 + self.draws.below(8)):
+            taken = self.at_subchannel(subchannel)
+            if not self.at_unit(unit) and not taken:
+                return
 
     # -- the whole
 
     def draw(self) -> None:
         kind = self.draws.below(32)
-        if kind < 6:
-            self.turn_subchannel(self.draws.subchannel())
-        elif kind < 12:
-            self.take_up(self.draws.subchannel())
-        elif kind < 24:
-            self.at_unit(self.draws.unit())
+        if kind < 20:
+            self.follow(self.draws.subchannel())
+            return
+        line = instruction(self.draws) if kind < 28 else outside(self.draws)
+        if kind_of(line) == "tsch":
+            self.test(line)
         else:
-            line = instruction(self.draws) if kind < 28 else outside(self.draws)
-            if kind_of(line) == "tsch":
-                self.test(line)
-            else:
-                # A look at storage is an event as a line alone.
-                self.enter(line, "lines" if line.startswith("show ") else None)
+            # A look at storage is an event as a line alone.
+            self.enter(line, "lines" if line.startswith("show ") else None)
 
     def rage(self) -> None:
         """So many events are drawn and accepted."""
         for line in PROGRAMS:
             self.enter(line)
         for _ in range(DRAWN):
-            if self.accepted == EVENTS:
+            if self.accepted >= EVENTS:
                 return
             self.draw()
         raise Wrong(f"{self.accepted} events are accepted of {DRAWN} that were drawn")
@@ -366,6 +377,8 @@ class Storm:
             came = self.enter(f"show {address:X} 40", "lines")
             must(came == self.player.storage[address : address + 0x40].hex().upper(), f"storage at {address:X} is shown as {came}")
         must(self.machine.history_count() == self.accepted, f"{self.machine.history_count()} entries are of {self.accepted} events")
+        every = self.accepted + self.refused + self.statuses.tests
+        must(len(self.lines) == len(self.answers) == every, f"{len(self.lines)} lines are of {every} events, refusals and looks")
         seldom = {kind: count for kind, count in self.kinds.items() if count < LEAST}
         must(len(self.kinds) == 30 and not seldom, f"too few: {seldom}")
 
@@ -391,15 +404,16 @@ def otherwise(lines: List[str], answers: List[str], printed: List[str]) -> List[
 
 
 def compared(storm: Storm, printed: List[str]) -> int:
-    """How many lines are printed otherwise. One answer that is another, as the last count that is glanced at, is seen."""
+    """How many lines are printed otherwise. Where none is, one that lacks would be seen, and a count that is another by one."""
     found = otherwise(storm.lines, storm.answers, printed)
     for it in found[:10]:
         print(it)
-    at = max(at for at, line in enumerate(storm.lines) if line.startswith("glance "))
-    words = storm.answers[at].split(" ")
-    altered = [*storm.answers[:at], " ".join([*words[:-1], str(int(words[-1]) + 1)]), *storm.answers[at + 1 :]]
-    must(len(otherwise(storm.lines, altered, printed)) > len(found) or printed == [], "an altered count is not seen")
-    must(len(otherwise(storm.lines, storm.answers, printed[:-1])) > len(found), "a line that lacks is not seen")
+    if not found:
+        at = max(at for at, line in enumerate(storm.lines) if line.startswith("glance "))
+        words = storm.answers[at].split(" ")
+        altered = [*storm.answers[:at], " ".join([*words[:-1], str(int(words[-1]) + 1)]), *storm.answers[at + 1 :]]
+        must(len(otherwise(storm.lines, altered, printed)) == 1, f"{altered[at]} in place of {storm.answers[at]} is not seen")
+        must(len(otherwise(storm.lines, storm.answers, printed[:-1])) == 1, "a line that lacks is not seen")
     return len(found)
 
 
