@@ -324,15 +324,15 @@ class Storm:
         return True
 
     def at_subchannel(self, subchannel: int) -> bool:
-        """By a turn, or by looks at what waits."""
-        return self.take_up(subchannel) if self.draws.below(2) else self.turn_subchannel(subchannel)
+        """By a turn, or at times by looks at what waits."""
+        return self.turn_subchannel(subchannel) if self.draws.below(4) else self.take_up(subchannel)
 
     def at_unit(self, unit: int) -> bool:
         """The same. An answer of a device that waits comes first, as it does in a script."""
         if unit in self.player.waiting:
             self.enter(f"dev {unit}")
             return True
-        return self.look_at_unit(unit) if self.draws.below(2) else self.turn_unit(unit)
+        return self.turn_unit(unit) if self.draws.below(4) else self.look_at_unit(unit)
 
     def follow(self, subchannel: int) -> None:
         """What is due at a subchannel and at its unit, some times or until nothing is."""
