@@ -652,6 +652,7 @@ class Machine:
         self._room: Any = ctypes.create_string_buffer(_CHUNK)
         self._told = ctypes.create_string_buffer(_TOLD.size)
         self._text = ctypes.create_string_buffer(_TEXT_ROOM)
+        self._entry: Any = ctypes.create_string_buffer(_ENTRY_ROOM)
         self._block: Any = ctypes.create_string_buffer(64)
         self._three = (ctypes.c_uint32 * 3)()
         self._one = (ctypes.c_uint32 * 1)()
@@ -1162,10 +1163,9 @@ class Machine:
         return count.value
 
     def _entry_text(self, name: str, index: int) -> str:
-        room = ctypes.create_string_buffer(_ENTRY_ROOM)
-        written = ctypes.c_size_t()
-        self._set(name, ctypes.c_uint64(index), room, _size(_ENTRY_ROOM), _byref(written))
-        return room.raw[: written.value].decode("ascii")
+        self._set(name, ctypes.c_uint64(index), self._entry, _size(_ENTRY_ROOM), _byref(self._written))
+        text: bytes = self._entry[: self._written.value]
+        return text.decode("ascii")
 
     def history_line(self, index: int) -> str:
         """The event of an entry, from 0, as a line that :meth:`line` performs."""

@@ -213,6 +213,8 @@ class Player:
         self.lines += 1
         if came >= 0 and words[0] == b"restart":
             self.devices[number(words[1])].restart()
+        if came >= 0 and words[0] == b"prefix":
+            self.prefixes[number(words[1])] = number(words[2])
         return text
 
     # -- actions by methods of their own

@@ -37,6 +37,10 @@ SANITIZERS = {
     "address+undefined": ["-O1", "-g", "-fsanitize=address,undefined", "-fno-sanitize-recover=all", "-fno-omit-frame-pointer"],
 }
 THREADS = {"plain": ["-O2"], "thread": ["-O1", "-g", "-fsanitize=thread"]}
+#: What is no package, and is left out by this name: the program beside which the storm is held.
+CHSIM = "chsim"
+#: How many events of the storm are drawn.
+STORM = 1_000_000
 #: The least programs a second through Python, also on a machine that is busy: a quiet one does two to five times as many.
 LEAST_PROGRAMS = 10000
 #: How many lines the recorded runs have, and how many of them are answered otherwise: two of altered.run were altered.
@@ -52,6 +56,10 @@ REFUSED = [
 
 class Failed(Exception):
     """A check that failed, with what it said."""
+
+
+def chsim_of(top: Path) -> Path:
+    return top / "crates/chsim/out/chsim"
 
 
 class Counts:
@@ -81,6 +89,7 @@ class Bench:
         self.without = without
         self.archive = top / "out/libfiluvamoth.a"
         self.shared = top / "out/libfiluvamoth.so"
+        self.chsim = chsim_of(top)
         self.scripts = [
             *sorted((top / "examples").glob("*.chs")),
             *sorted((top / "tests/cases").glob("*.chs")),
@@ -350,6 +359,16 @@ def sights_in_python(bench: Bench) -> str:
     return f"{number_in(came, 'checks')} looks"
 
 
+def storm_in_python(bench: Bench) -> str:
+    came = bench.run([sys.executable, HERE / "storm.py", bench.chsim], environment=in_python(bench))
+    must_be(came, {"otherwise": 0})
+    events, lines, refused, least = (number_in(came, name) for name in ("events", "lines", "refused", "least"))
+    if events < STORM:
+        raise Failed(came)
+    whole = f"{events} events, {least} of a kind at least, in {lines} lines of which {refused} are refused"
+    return f"{whole}, as chsim answers them; {number_in(came, 'cleared')} statuses cleared, each once and in order"
+
+
 def programs_in_python(bench: Bench) -> str:
     came = bench.run([sys.executable, HERE / "cycle.py", "4"], environment=in_python(bench))
     programs = number_in(came, "programs")
@@ -454,6 +473,7 @@ def checks_of(bench: Bench) -> List[Tuple[str, Callable[[], str]]]:
 
     add("valgrind", "valgrind", memcheck)
     add("", "Python scripts", play_in_python)
+    add(CHSIM, "Python storm", storm_in_python)
     for compiler in ("gcc", "clang"):
         add(compiler, f"{compiler} memory", memory, compiler)
         for kind in SANITIZERS:
@@ -516,7 +536,7 @@ def run_all(bench: Bench, jobs: int, only: Optional[str]) -> int:
 def main() -> int:
     parser = argparse.ArgumentParser(prog="tools/host-tests", description="Tests of the library for C, C++ and Python.")
     parser.add_argument("--from", dest="top", type=Path, default=TOP, help="the checkout whose out/ and stored scripts are taken")
-    parser.add_argument("--without", action="append", default=[], choices=sorted(TOOLS), help="do without this tool")
+    parser.add_argument("--without", action="append", default=[], choices=sorted([*TOOLS, CHSIM]), help="do without this tool")
     parser.add_argument("--jobs", type=int, default=2, help="how many checks run at once")
     parser.add_argument("--only", help="only the checks whose name has this")
     given = parser.parse_args()
@@ -535,6 +555,9 @@ def main() -> int:
         if not (top / "out" / library).is_file():
             print(f"tools/host-tests: {top / 'out' / library} is missing: tools/archive makes it")
             return 1
+    if CHSIM not in without and not chsim_of(top).is_file():
+        print(f"tools/host-tests: {chsim_of(top)} is missing: rt run in crates/chsim makes it (or --without {CHSIM})")
+        return 1
     start = time.monotonic()
     with tempfile.TemporaryDirectory(prefix="host-tests.") as folder:
         bench = Bench(top, Path(folder), without)

@@ -1,12 +1,12 @@
-//! A channel subsystem of which the last subchannel is measured, with its device.
+//! Cycles at the last subchannel of a channel subsystem.
 
-use crate::cycle::{Beat, IRB, Kind, ORB};
+use crate::cycle::{Beat, IRB, Kind, ORB, data, orb};
+use crate::driver::Driver;
 use crate::floor::Floor;
 use chan_events::event::{Event, Instruction, UnitAct};
 use chan_model::names::Cpu;
 use channel_config::config::Config;
 use channel_config::parts::UnitKind;
-use device_models::any_device::AnyDevice;
 use std::alloc::{AllocError, Global};
 
 /// The channel paths of each subchannel, the first of them or all.
@@ -15,14 +15,12 @@ const CHPIDS: [u32; 8] = [0x10, 0x11, 0x12, 0x13, 0x14, 0x15, 0x16, 0x17];
 /// The most subchannels that there are: 256 in each of four sets.
 const MOST_SUBCHANNELS: u32 = 0x400;
 
-/// What events are performed at, the subchannel that is measured, and the device of its unit.
-#[derive(Drop)]
-pub struct Bench<F: Floor + Drop> {
-    floor: F,
-    device: AnyDevice,
-    cpu: Cpu,
-    subchannel: u32,
-    unit: u32,
+/// So many cycles of this kind, at the last of so many subchannels.
+#[derive(Clone, Copy)]
+pub struct Work {
+    pub kind: Kind,
+    pub subchannels: u32,
+    pub cycles: u64,
 }
 
 /// What came of the cycles.
@@ -34,6 +32,14 @@ pub struct Count {
     pub refused: u64,
     /// How many statuses were made and cleared.
     pub cleared: u64,
+}
+
+/// The subchannel that is measured, its unit, and the CPU whose instructions are executed on it.
+#[derive(Clone, Copy)]
+pub struct Place {
+    cpu: Cpu,
+    subchannel: u32,
+    unit: u32,
 }
 
 /// The subsystem-identification word of the subchannel of this index.
@@ -60,142 +66,158 @@ pub fn config_of(alloc: Global, subchannels: u32, paths: usize) -> Option<Config
     Some(config)
 }
 
-impl<F: Floor + Drop> Bench<F> {
-    /// The last of so many subchannels is enabled, and a program of this kind lies in storage. None where that is refused, or
-    /// no memory is left.
-    pub fn at(alloc: Global, floor: F, kind: Kind, subchannels: u32) -> Option<Bench<F>> {
-        let cpu = Cpu::new(0)?;
+impl Work {
+    /// The machine at which it is done. None where there are not so many subchannels.
+    pub fn config(self, alloc: Global) -> Option<Config> {
+        config_of(alloc, self.subchannels, self.kind.paths())
+    }
+}
+
+impl Place {
+    /// The last of so many subchannels; None where there are none.
+    pub fn last_of(subchannels: u32) -> Option<Place> {
         let last = subchannels.checked_sub(1)?;
-        let mut bench = Bench {
-            floor,
-            device: AnyDevice::of(UnitKind::Block),
-            cpu,
+        Some(Place {
+            cpu: Cpu::new(0)?,
             subchannel: word_of(last),
             unit: last,
-        };
-        if bench.begins(alloc, kind) {
-            Some(bench)
-        } else {
-            None
+        })
+    }
+
+    /// The event of an instruction.
+    fn instruction(&self, instruction: Instruction) -> Event {
+        Event::Execute {
+            cpu: self.cpu,
+            instruction,
         }
     }
 
-    /// The program is put into storage, and the subchannel enabled.
-    fn begins(&mut self, alloc: Global, kind: Kind) -> bool {
-        let Ok(loads) = kind.loads(alloc) else {
-            return false;
-        };
-        for load in loads {
-            if !self.floor.accepts(&load) {
-                return false;
-            }
+    /// The event of an act of the unit.
+    fn act(&self, act: UnitAct) -> Event {
+        Event::Act {
+            unit: self.unit,
+            act,
         }
-        self.execute(Instruction::Enable {
+    }
+
+    /// The event that enables the subchannel.
+    pub fn enabling(&self) -> Event {
+        self.instruction(Instruction::Enable {
             subchannel: self.subchannel,
             subclass: 0,
             multipath: true,
         })
     }
 
-    /// What its events were performed at.
-    pub fn into_floor(self) -> F {
-        let Bench {
-            floor,
-            device: _,
-            cpu: _,
-            subchannel: _,
-            unit: _,
-        } = self;
-        floor
-    }
-
-    /// Whether an instruction is accepted.
-    fn execute(&mut self, instruction: Instruction) -> bool {
-        let cpu = self.cpu;
-        self.floor.accepts(&Event::Execute { cpu, instruction })
-    }
-
-    /// The event of an instruction.
-    fn instruction(&self, instruction: Instruction) -> Option<Event> {
-        let cpu = self.cpu;
-        Some(Event::Execute { cpu, instruction })
-    }
-
-    /// The event of an act of the unit.
-    fn act(&self, act: UnitAct) -> Option<Event> {
-        let unit = self.unit;
-        Some(Event::Act { unit, act })
-    }
-
     /// The event of a beat; None where it is the report of what the device answers then.
     fn event(&self, beat: Beat) -> Option<Event> {
         let subchannel = self.subchannel;
         match beat {
-            Beat::Start => self.instruction(Instruction::Ssch {
+            Beat::Start => Some(self.instruction(Instruction::Ssch {
                 subchannel,
                 address: ORB,
-            }),
+            })),
             Beat::Choose => Some(Event::Choose { subchannel }),
             Beat::Down(path) => Some(Event::Down { subchannel, path }),
             Beat::Up(path) => Some(Event::Up { subchannel, path }),
             Beat::Device => None,
-            Beat::Leave => self.act(UnitAct::Leave),
-            Beat::Ask(path) => self.act(UnitAct::Ask { path }),
-            Beat::Test => self.instruction(Instruction::Tsch {
+            Beat::Leave => Some(self.act(UnitAct::Leave)),
+            Beat::Ask(path) => Some(self.act(UnitAct::Ask { path })),
+            Beat::Test => Some(self.instruction(Instruction::Tsch {
                 subchannel,
                 address: IRB,
-            }),
-            Beat::Cancel => self.instruction(Instruction::Xsch { subchannel }),
+            })),
+            Beat::Cancel => Some(self.instruction(Instruction::Xsch { subchannel })),
         }
     }
 
-    /// The events of one cycle of these beats, made once for all cycles.
-    fn events(&self, alloc: Global, beats: &[Beat]) -> Result<Vec<Option<Event>>, AllocError> {
-        let mut events = Vec::new(alloc);
+    /// Adds the events of these beats, which are made once for all cycles.
+    fn add_events(
+        &self,
+        beats: &[Beat],
+        events: &mut Vec<Option<Event>>,
+    ) -> Result<(), AllocError> {
         for beat in beats {
             events.push(self.event(*beat))?;
         }
-        Ok(events)
+        Ok(())
     }
+}
 
-    /// Whether an event is accepted; where it is none, the report of the device's answer.
-    fn perform(&mut self, event: &Option<Event>) -> bool {
-        match event {
-            Some(event) => self.floor.accepts(event),
-            None => self.floor.reports(self.unit, &mut self.device),
+/// Whether the program is put into storage, and the subchannel enabled.
+fn begins<F: Floor>(floor: &mut F, place: &Place, kind: Kind) -> bool {
+    let loaded = floor.accepts(&orb()) && floor.accepts(&data()) && floor.accepts(&kind.program());
+    let whole = match kind.rest() {
+        Some(rest) => floor.accepts(&rest),
+        None => true,
+    };
+    loaded && whole && floor.accepts(&place.enabling())
+}
+
+/// Whether an event is accepted; where it is none, the report of the device's answer.
+fn performs<F: Floor>(floor: &mut F, driver: &mut Driver, event: &Option<Event>) -> bool {
+    match event {
+        Some(event) => floor.accepts(event),
+        None => floor.has_report(driver) && floor.accepts(driver.event()),
+    }
+}
+
+/// One cycle: how many of its events were refused.
+fn refused_in<F: Floor>(floor: &mut F, driver: &mut Driver, events: &[Option<Event>]) -> u64 {
+    let mut refused = 0u64;
+    for event in events {
+        if !performs(floor, driver, event) {
+            refused = refused.saturating_add(1);
         }
     }
+    refused
+}
 
-    /// One cycle: how many of its events were refused.
-    fn cycle(&mut self, events: &[Option<Event>]) -> u64 {
-        let mut refused = 0u64;
-        for event in events {
-            if !self.perform(event) {
-                refused = refused.saturating_add(1);
-            }
-        }
-        refused
+/// So many cycles of these events: what came of them.
+fn counted<F: Floor>(floor: &mut F, place: &Place, events: &[Option<Event>], cycles: u64) -> Count {
+    let mut driver = Driver::of(place.unit);
+    let before = floor.accepted();
+    let mut refused = 0u64;
+    for _ in 0..cycles {
+        refused = refused.saturating_add(refused_in(floor, &mut driver, events));
     }
+    Count {
+        accepted: floor.accepted().saturating_sub(before),
+        refused,
+        cleared: floor.cleared(place.subchannel),
+    }
+}
 
-    /// So many cycles.
-    fn cycles(&mut self, events: &[Option<Event>], cycles: u64) -> u64 {
-        let mut refused = 0u64;
-        for _ in 0..cycles {
-            refused = refused.saturating_add(self.cycle(events));
-        }
-        refused
-    }
+/// So many cycles of this kind, whose beats and events are kept in these lists.
+fn measured_in<F: Floor>(
+    floor: &mut F,
+    place: &Place,
+    kind: Kind,
+    cycles: u64,
+    beats: &mut Vec<Beat>,
+    events: &mut Vec<Option<Event>>,
+) -> Result<Count, AllocError> {
+    kind.add_beats(beats)?;
+    place.add_events(beats.as_slice(), events)?;
+    Ok(counted(floor, place, events.as_slice(), cycles))
+}
 
-    /// Performs so many cycles of this kind.
-    pub fn measure(&mut self, alloc: Global, kind: Kind, cycles: u64) -> Result<Count, AllocError> {
-        let beats = kind.beats(alloc)?;
-        let events = self.events(alloc, beats.as_slice())?;
-        let before = self.floor.accepted();
-        let refused = self.cycles(events.as_slice(), cycles);
-        Ok(Count {
-            accepted: self.floor.accepted().saturating_sub(before),
-            refused,
-            cleared: self.floor.cleared(self.subchannel),
-        })
+/// A program of this kind is put into storage, the last subchannel enabled, and so many cycles performed. None where that is
+/// refused, or no memory is left.
+pub fn measured<F: Floor>(alloc: Global, floor: &mut F, work: Work) -> Option<Count> {
+    let place = Place::last_of(work.subchannels)?;
+    if !begins(floor, &place, work.kind) {
+        return None;
     }
+    let mut beats = Vec::new(alloc);
+    let mut events = Vec::new(alloc);
+    measured_in(
+        floor,
+        &place,
+        work.kind,
+        work.cycles,
+        &mut beats,
+        &mut events,
+    )
+    .ok()
 }

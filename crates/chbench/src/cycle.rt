@@ -3,7 +3,7 @@
 
 use chan_events::event::Event;
 use chan_model::chunk::Chunk;
-use std::alloc::{AllocError, Global};
+use std::alloc::AllocError;
 
 /// Where the ORB lies.
 pub const ORB: u32 = 0x500;
@@ -89,18 +89,6 @@ impl Kind {
         }
     }
 
-    /// Its name.
-    pub fn name(self) -> &'static str {
-        match self {
-            Kind::Write => "write",
-            Kind::Read => "read",
-            Kind::Chain => "chain",
-            Kind::Reconnect => "reconnect",
-            Kind::Start => "start",
-            Kind::Test => "test",
-        }
-    }
-
     /// How many paths each subchannel has.
     pub fn paths(self) -> usize {
         match self {
@@ -109,60 +97,56 @@ impl Kind {
         }
     }
 
-    /// The events that put the program into storage.
-    pub fn loads(self, alloc: Global) -> Result<Vec<Event>, AllocError> {
-        let mut loads = Vec::new(alloc);
-        // Format-1 CCWs; path 0 alone is allowed for the offer.
-        loads.push(put(ORB, &[0, 0, 0, 0, 0, 0x80, 0x80, 0, 0, 0, 0x10, 0]))?;
-        loads.push(put(DATA, &[0xC1, 0xC2, 0xC3, 0xC4]))?;
+    /// The first of its CCWs, put into storage.
+    pub fn program(self) -> Event {
         match self {
-            Kind::Write | Kind::Reconnect | Kind::Start | Kind::Test => {
-                loads.push(put(PROGRAM, &WRITE))?;
-            }
-            Kind::Read => loads.push(put(PROGRAM, &READ))?,
-            Kind::Chain => {
-                loads.push(links(PROGRAM, CHAINED / 2 - 1, &WRITE_AND_CHAIN))?;
-                loads.push(links(PROGRAM + 0x100, CHAINED / 2 - 1, &WRITE))?;
-            }
+            Kind::Write | Kind::Reconnect | Kind::Start | Kind::Test => put(PROGRAM, &WRITE),
+            Kind::Read => put(PROGRAM, &READ),
+            Kind::Chain => links(PROGRAM, CHAINED / 2 - 1, &WRITE_AND_CHAIN),
         }
-        Ok(loads)
     }
 
-    /// The events of one cycle.
-    pub fn beats(self, alloc: Global) -> Result<Vec<Beat>, AllocError> {
-        let mut beats = Vec::new(alloc);
+    /// Those that one event more puts behind them, if there are any.
+    pub fn rest(self) -> Option<Event> {
         match self {
-            Kind::Start => {
-                beats.extend_from_slice(&[Beat::Start, Beat::Cancel])?;
-                return Ok(beats);
-            }
-            Kind::Test => {
-                beats.push(Beat::Test)?;
-                return Ok(beats);
-            }
-            _ => {}
+            Kind::Chain => Some(links(PROGRAM + 0x100, CHAINED / 2 - 1, &WRITE)),
+            _ => None,
         }
-        beats.extend_from_slice(&[Beat::Start, Beat::Choose, Beat::Down(0), Beat::Up(0)])?;
-        match self {
-            Kind::Write => add_write(&mut beats)?,
-            Kind::Read => add_read(&mut beats)?,
-            Kind::Chain => {
-                for _ in 0..CHAINED {
-                    add_write(&mut beats)?;
-                }
-            }
-            Kind::Reconnect => {
-                beats.push(Beat::Down(0))?;
-                for path in 0..8u32 {
-                    add_reconnection(&mut beats, path, (path + 1) & 7)?;
-                }
-                add_transfer(&mut beats)?;
-            }
-            Kind::Start | Kind::Test => {}
-        }
-        beats.extend_from_slice(&[Beat::Test, Beat::Down(0), Beat::Up(0)])?;
-        Ok(beats)
     }
+
+    /// Adds the beats of one cycle.
+    pub fn add_beats(self, beats: &mut Vec<Beat>) -> Result<(), AllocError> {
+        match self {
+            Kind::Start => beats.extend_from_slice(&[Beat::Start, Beat::Cancel]),
+            Kind::Test => beats.extend_from_slice(&[Beat::Test]),
+            Kind::Write | Kind::Read | Kind::Chain | Kind::Reconnect => {
+                beats.extend_from_slice(&[Beat::Start, Beat::Choose, Beat::Down(0), Beat::Up(0)])?;
+                self.add_commands(beats)?;
+                beats.extend_from_slice(&[Beat::Test, Beat::Down(0), Beat::Up(0)])
+            }
+        }
+    }
+
+    /// Those of the commands of its program.
+    fn add_commands(self, beats: &mut Vec<Beat>) -> Result<(), AllocError> {
+        match self {
+            Kind::Write => add_write(beats),
+            Kind::Read => add_read(beats),
+            Kind::Chain => add_chain(beats),
+            Kind::Reconnect => add_reconnections(beats),
+            Kind::Start | Kind::Test => Ok(()),
+        }
+    }
+}
+
+/// The ORB, of format-1 CCWs, of which path 0 alone is allowed for the offer, put into storage.
+pub fn orb() -> Event {
+    put(ORB, &[0, 0, 0, 0, 0, 0x80, 0x80, 0, 0, 0, 0x10, 0])
+}
+
+/// The same of the bytes that are written.
+pub fn data() -> Event {
+    put(DATA, &[0xC1, 0xC2, 0xC3, 0xC4])
 }
 
 /// A write: its command, and what follows.
@@ -171,12 +155,26 @@ fn add_write(beats: &mut Vec<Beat>) -> Result<(), AllocError> {
     add_transfer(beats)
 }
 
+/// As many writes as a chain has.
+fn add_chain(beats: &mut Vec<Beat>) -> Result<(), AllocError> {
+    for _ in 0..CHAINED {
+        add_write(beats)?;
+    }
+    Ok(())
+}
+
 /// The bytes of a write are asked for, given and absorbed, and it ends.
 fn add_transfer(beats: &mut Vec<Beat>) -> Result<(), AllocError> {
-    for _ in 0..2 {
-        beats.extend_from_slice(&[Beat::Device, Beat::Up(0), Beat::Down(0)])?;
-    }
-    beats.extend_from_slice(&[Beat::Device, Beat::Up(0)])
+    beats.extend_from_slice(&[
+        Beat::Device,
+        Beat::Up(0),
+        Beat::Down(0),
+        Beat::Device,
+        Beat::Up(0),
+        Beat::Down(0),
+        Beat::Device,
+        Beat::Up(0),
+    ])
 }
 
 /// A read: it begins, its bytes are taken, and it ends.
@@ -190,6 +188,15 @@ fn add_read(beats: &mut Vec<Beat>) -> Result<(), AllocError> {
         Beat::Device,
         Beat::Up(0),
     ])
+}
+
+/// A write whose unit leaves each of eight paths and comes back on the next one.
+fn add_reconnections(beats: &mut Vec<Beat>) -> Result<(), AllocError> {
+    beats.push(Beat::Down(0))?;
+    for path in 0..8u32 {
+        add_reconnection(beats, path, (path + 1) & 7)?;
+    }
+    add_transfer(beats)
 }
 
 /// The unit leaves one path and comes back on another.

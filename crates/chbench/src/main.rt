@@ -21,17 +21,18 @@
 
 mod bench;
 mod cycle;
+mod driver;
 mod floor;
-mod lent;
 mod race;
 mod seats;
+mod taking;
 
-use crate::bench::{Bench, Count, config_of};
+use crate::bench::{Count, Work, measured};
 use crate::cycle::Kind;
-use crate::floor::{Answering, Floor, Looking, Performing};
-use crate::lent::{LentAnswering, LentLooking, LentPerforming};
+use crate::floor::{Lent, Own};
 use crate::race::{Race, RaceCount};
 use crate::seats::{Outcome, Task};
+use crate::taking::{Leaving, Looking, Owning, Taking};
 use channel_subsystem::hosted::ChannelSubsystem;
 use channel_subsystem::keeping::Keeping;
 use path_select::Rotating;
@@ -101,9 +102,7 @@ enum Wanted {
     Step {
         owner: Owner,
         answers: Answers,
-        kind: Kind,
-        subchannels: u32,
-        cycles: u64,
+        work: Work,
     },
     /// A task at a core.
     AtCore(Task),
@@ -111,6 +110,15 @@ enum Wanted {
 
 fn number(word: &str) -> Option<u32> {
     word.parse::<u32>().ok()
+}
+
+/// The cycles of a group: its kind by name, how many subchannels there are, and how many cycles.
+fn work_of(kind: &str, subchannels: u32, cycles: u64) -> Option<Work> {
+    Some(Work {
+        kind: Kind::named(kind)?,
+        subchannels,
+        cycles,
+    })
 }
 
 impl Wanted {
@@ -132,28 +140,8 @@ impl Wanted {
 
     /// What is asked for by its name.
     fn named(name: &str, second: &str, third: u32, times: u64) -> Option<Wanted> {
-        if let Some(answers) = Answers::named(name) {
-            Some(Wanted::Step {
-                owner: Owner::Subsystem,
-                answers,
-                kind: Kind::named(second)?,
-                subchannels: third,
-                cycles: times,
-            })
-        } else if let Some(answers) = Answers::of_lent(name) {
-            Some(Wanted::Step {
-                owner: Owner::Host,
-                answers,
-                kind: Kind::named(second)?,
-                subchannels: third,
-                cycles: times,
-            })
-        } else if name == "enter" {
-            Some(Wanted::AtCore(Task::Cycles {
-                kind: Kind::named(second)?,
-                subchannels: third,
-                cycles: times,
-            }))
+        if name == "enter" {
+            Some(Wanted::AtCore(Task::Cycles(work_of(second, third, times)?)))
         } else if name == "race" {
             Some(Wanted::AtCore(Task::Race(Race {
                 cpus: number(second)?,
@@ -161,7 +149,13 @@ impl Wanted {
                 times,
             })))
         } else {
-            None
+            let (owner, answers) = step_named(name)?;
+            let work = work_of(second, third, times)?;
+            Some(Wanted::Step {
+                owner,
+                answers,
+                work,
+            })
         }
     }
 
@@ -169,56 +163,107 @@ impl Wanted {
     fn perform<R: Threads + Wait + Sync>(self, rt: &R, alloc: Global) -> Option<Outcome> {
         match self {
             Wanted::Step {
-                owner: Owner::Subsystem,
+                owner,
                 answers,
-                kind,
-                subchannels,
-                cycles,
-            } => Some(Outcome::Count(at_subsystem(alloc, answers, kind, subchannels, cycles)?)),
-            Wanted::Step {
-                owner: Owner::Host,
-                answers,
-                kind,
-                subchannels,
-                cycles,
-            } => Some(Outcome::Count(on_lent(alloc, answers, kind, subchannels, cycles)?)),
+                work,
+            } => counted_by(alloc, owner, answers, work).map(Outcome::Count),
             Wanted::AtCore(task) => seats::perform(rt, alloc, task),
         }
     }
 }
 
-/// Cycles at a subsystem of so many subchannels with the paths of this kind, which keeps their history.
-fn at_subsystem(
-    alloc: Global,
-    answers: Answers,
-    kind: Kind,
-    subchannels: u32,
-    cycles: u64,
-) -> Option<Count> {
-    let config = config_of(alloc, subchannels, kind.paths())?;
-    let subsystem = Subsystem::new(alloc, config, Rotating).ok()?;
-    match answers {
-        Answers::AreOwned => measured(alloc, Answering::of(subsystem), kind, subchannels, cycles),
-        Answers::Stay => measured(alloc, Performing::of(subsystem), kind, subchannels, cycles),
-        Answers::AreLent => measured(alloc, Looking::of(subsystem), kind, subchannels, cycles),
+/// Whose storage it is, and what is done with the answers, by the word of a group; None where it is none of these.
+fn step_named(name: &str) -> Option<(Owner, Answers)> {
+    match Answers::named(name) {
+        Some(answers) => Some((Owner::Subsystem, answers)),
+        None => Some((Owner::Host, Answers::of_lent(name)?)),
     }
 }
 
-/// Cycles at one that keeps no history, on 64 MiB that are lent to it.
-fn on_lent(
+/// Cycles at a subsystem by itself.
+fn counted_by(alloc: Global, owner: Owner, answers: Answers, work: Work) -> Option<Count> {
+    match owner {
+        Owner::Subsystem => at_subsystem(alloc, answers, work),
+        Owner::Host => on_lent(alloc, answers, work),
+    }
+}
+
+/// Cycles at a subsystem of so many subchannels with the paths of this kind, which keeps their history.
+fn at_subsystem(alloc: Global, answers: Answers, work: Work) -> Option<Count> {
+    let config = work.config(alloc)?;
+    match Subsystem::new(alloc, config, Rotating) {
+        Ok(subsystem) => at_own(alloc, subsystem, answers, work),
+        Err(_) => None,
+    }
+}
+
+/// Cycles at this subsystem.
+fn at_own(
     alloc: Global,
+    subsystem: Subsystem<Rotating>,
     answers: Answers,
-    kind: Kind,
-    subchannels: u32,
-    cycles: u64,
+    work: Work,
 ) -> Option<Count> {
+    match answers {
+        Answers::AreOwned => taken_at_own(alloc, subsystem, Owning, work),
+        Answers::Stay => taken_at_own(alloc, subsystem, Leaving, work),
+        Answers::AreLent => taken_at_own(alloc, subsystem, Looking, work),
+    }
+}
+
+/// The same, where its answers are taken so.
+fn taken_at_own<T: Taking>(
+    alloc: Global,
+    subsystem: Subsystem<Rotating>,
+    taking: T,
+    work: Work,
+) -> Option<Count> {
+    measured(alloc, &mut Own { subsystem, taking }, work)
+}
+
+/// Cycles at one that keeps no history, on 64 MiB that are lent to it.
+fn on_lent(alloc: Global, answers: Answers, work: Work) -> Option<Count> {
     let mut bytes = vec![in alloc; 0; 0x1000 * BLOCKS as usize].ok()?;
-    let mut keys = vec![in alloc; 0; BLOCKS as usize].ok()?;
+    match vec![in alloc; 0; BLOCKS as usize] {
+        Ok(mut keys) => on_storage(
+            alloc,
+            bytes.as_mut_slice(),
+            keys.as_mut_slice(),
+            answers,
+            work,
+        ),
+        Err(_) => None,
+    }
+}
+
+/// Cycles at one that keeps no history, on storage of these bytes and keys.
+fn on_storage(
+    alloc: Global,
+    bytes: &mut [u8],
+    keys: &mut [u8],
+    answers: Answers,
+    work: Work,
+) -> Option<Count> {
+    match answers {
+        Answers::AreOwned => taken_on_storage(alloc, bytes, keys, Owning, work),
+        Answers::Stay => taken_on_storage(alloc, bytes, keys, Leaving, work),
+        Answers::AreLent => taken_on_storage(alloc, bytes, keys, Looking, work),
+    }
+}
+
+/// The same, where its answers are taken so.
+fn taken_on_storage<T: Taking>(
+    alloc: Global,
+    bytes: &mut [u8],
+    keys: &mut [u8],
+    taking: T,
+    work: Work,
+) -> Option<Count> {
     let mut prefixes = [0; 16];
     if !LentStorage::fits(bytes.len(), keys.len(), &prefixes) {
         return None;
     }
-    let config = config_of(alloc, subchannels, kind.paths())?;
+    let config = work.config(alloc)?;
     let subsystem = ChannelSubsystem::new(
         alloc,
         config,
@@ -226,33 +271,8 @@ fn on_lent(
         Keeping::LastEntry,
         Rotating,
     ).ok()?;
-    let storage = LentStorage::new(bytes.as_mut_slice(), keys.as_mut_slice(), &mut prefixes);
-    match answers {
-        Answers::AreOwned => {
-            let floor = LentAnswering::of(subsystem, storage);
-            measured(alloc, floor, kind, subchannels, cycles)
-        }
-        Answers::Stay => {
-            let floor = LentPerforming::of(subsystem, storage);
-            measured(alloc, floor, kind, subchannels, cycles)
-        }
-        Answers::AreLent => {
-            let floor = LentLooking::of(subsystem, storage);
-            measured(alloc, floor, kind, subchannels, cycles)
-        }
-    }
-}
-
-/// Cycles at a floor of so many subchannels.
-fn measured<F: Floor + Drop>(
-    alloc: Global,
-    floor: F,
-    kind: Kind,
-    subchannels: u32,
-    cycles: u64,
-) -> Option<Count> {
-    let mut bench = Bench::at(alloc, floor, kind, subchannels)?;
-    bench.measure(alloc, kind, cycles).ok()
+    let storage = LentStorage::new(bytes, keys, &mut prefixes);
+    measured(alloc, &mut Lent::of(subsystem, storage, taking), work)
 }
 
 /// Prints the words of a group.
@@ -292,26 +312,50 @@ fn show(rt: &HostRuntime, outcome: Outcome) -> io::Result<()> {
     }
 }
 
-fn main(rt: HostRuntime) -> io::Result<ExitCode> {
-    let mut words = Vec::new(rt.alloc());
-    let mut args = env::args(&rt)?;
+/// The words of the program, behind its name.
+fn add_words(rt: &HostRuntime, words: &mut Vec<String>) -> io::Result<()> {
+    let mut args = env::args(rt)?;
     let _ = args.next();
     for word in args {
         words.push(word)?;
     }
+    Ok(())
+}
+
+/// Prints what came of a group: the exit status, where it ends the program.
+fn tell(
+    rt: &HostRuntime,
+    group: &[String],
+    wanted: Option<Wanted>,
+    outcome: Option<Outcome>,
+) -> io::Result<Option<u8>> {
+    if wanted.is_none() {
+        println!(rt;
+            "chbench: [lent-]step|perform|look KIND SUBCHANNELS CYCLES | enter KIND SUBCHANNELS CYCLES | race CPUS LOOKERS TIMES .."
+        )?;
+        return Ok(Some(2));
+    }
+    let Some(outcome) = outcome else {
+        println!(rt; "chbench: no such subchannel, too many CPUs or seats, or no memory")?;
+        return Ok(Some(1));
+    };
+    show_words(rt, group)?;
+    show(rt, outcome)?;
+    Ok(None)
+}
+
+fn main(rt: HostRuntime) -> io::Result<ExitCode> {
+    let mut words = Vec::new(rt.alloc());
+    add_words(&rt, &mut words)?;
     for group in words.as_slice().chunks(4) {
-        let Some(wanted) = Wanted::of(group) else {
-            println!(rt;
-                "chbench: [lent-]step|perform|look KIND SUBCHANNELS CYCLES | enter KIND SUBCHANNELS CYCLES | race CPUS LOOKERS TIMES .."
-            )?;
-            return Ok(ExitCode::from(2));
+        let wanted = Wanted::of(group);
+        let outcome = match wanted {
+            Some(wanted) => wanted.perform(&rt, rt.alloc()),
+            None => None,
         };
-        let Some(outcome) = wanted.perform(&rt, rt.alloc()) else {
-            println!(rt; "chbench: no such subchannel, too many CPUs or seats, or no memory")?;
-            return Ok(ExitCode::from(1));
-        };
-        show_words(&rt, group)?;
-        show(&rt, outcome)?;
+        if let Some(status) = tell(&rt, group, wanted, outcome)? {
+            return Ok(ExitCode::from(status));
+        }
     }
     Ok(ExitCode::SUCCESS)
 }

@@ -1,8 +1,7 @@
 //! CPUs and lookers at one locked core, each on a thread of its own.
 
-use crate::bench::{Bench, word_of};
-use crate::cycle::{IRB, Kind};
-use crate::floor::Seated;
+use crate::bench::{Place, word_of};
+use crate::cycle::IRB;
 use chan_events::event::Instruction;
 use chan_model::names::Cpu;
 use core_lock::executing::CpuInstruction;
@@ -10,8 +9,9 @@ use core_lock::locked::{Core, Seat, audit};
 use core_lock::naming::MachineBrand;
 use machine_lock::locked_machine::Machine;
 use path_select::Rotating;
-use std::alloc::{AllocError, Global};
+use std::alloc::Global;
 use std::sync::Wait;
+use std::sync::atomic::{AtomicU64, Ordering};
 use std::thread::{Threads, for_each_mut};
 
 /// How often a looker looks for each instruction of a CPU.
@@ -35,30 +35,71 @@ pub struct RaceCount {
     pub audited: bool,
 }
 
-/// What a thread does.
-#[derive(Clone, Copy)]
-enum Task {
-    /// A CPU executes TEST SUBCHANNEL.
-    Tests(Cpu),
-    /// A looker looks at the serials of the subchannel.
-    Looks,
-}
-
-/// A seat, what it is for, and how much was answered to it.
+/// What was answered to all threads.
 #[derive(Drop)]
-struct Runner<J: MachineBrand> {
-    seat: Seat<J>,
-    task: Task,
-    answered: u64,
+struct Answered {
+    instructions: AtomicU64,
+    looks: AtomicU64,
 }
 
-impl<J: MachineBrand> Runner<J> {
-    /// Does so many times what it is for.
-    fn run<R: Wait>(&mut self, rt: &R, machine: &Machine<J, Rotating>, times: u64) {
-        self.answered = match &self.task {
-            Task::Tests(cpu) => tests(rt, machine, &mut self.seat, *cpu, times),
-            Task::Looks => looks(&mut self.seat, times.saturating_mul(LOOKS)),
-        };
+impl Answered {
+    /// Nothing.
+    fn new() -> Self {
+        Answered {
+            instructions: AtomicU64::new(0),
+            looks: AtomicU64::new(0),
+        }
+    }
+
+    /// What came of the race.
+    fn count(&self, audited: bool) -> RaceCount {
+        RaceCount {
+            instructions: self.instructions.load(Ordering::SeqCst),
+            looks: self.looks.load(Ordering::SeqCst),
+            audited,
+        }
+    }
+}
+
+impl Race {
+    /// The same where all are ready for it, and one without instructions and looks where they are not.
+    fn when(self, ready: bool) -> Race {
+        Race {
+            cpus: self.cpus,
+            lookers: self.lookers,
+            times: if ready { self.times } else { 0 },
+        }
+    }
+
+    /// The CPU of the seat of this index; None where it is a looker's.
+    fn cpu_of(self, index: usize) -> Option<Cpu> {
+        let number = u32::try_from(index).ok()?;
+        if number < self.cpus {
+            Cpu::new(number)
+        } else {
+            None
+        }
+    }
+
+    /// What the thread of this index does, by its seat.
+    fn run<J: MachineBrand, R: Wait>(
+        self,
+        rt: &R,
+        machine: &Machine<J, Rotating>,
+        index: usize,
+        seat: &mut Seat<J>,
+        answered: &Answered,
+    ) {
+        match self.cpu_of(index) {
+            Some(cpu) => {
+                let count = tests(rt, machine, seat, cpu, self.times);
+                answered.instructions.fetch_add(count, Ordering::SeqCst);
+            }
+            None => {
+                let count = looks(seat, self.times.saturating_mul(LOOKS));
+                answered.looks.fetch_add(count, Ordering::SeqCst);
+            }
+        }
     }
 }
 
@@ -94,136 +135,71 @@ fn looks<J: MachineBrand>(seat: &mut Seat<J>, times: u64) -> u64 {
     answered
 }
 
-/// One more runner; false where there is no seat or no memory.
-fn add<J: MachineBrand>(
-    core: &mut Core<J, Rotating>,
-    runners: &mut Vec<Runner<J>>,
-    task: Task,
-) -> bool {
-    let Ok(seat) = core.seat() else {
-        return false;
-    };
-    runners
-        .push(Runner {
-            seat,
-            task,
-            answered: 0,
-        })
-        .is_ok()
+/// One more seat; false where there is none or no memory.
+fn add_seat<J: MachineBrand>(core: &mut Core<J, Rotating>, seats: &mut Vec<Seat<J>>) -> bool {
+    match core.seat() {
+        Ok(seat) => seats.push(seat).is_ok(),
+        Err(_) => false,
+    }
 }
 
-/// The CPUs, and then the lookers.
-fn runners_of<J: MachineBrand>(
-    alloc: Global,
+/// A seat for each thread, first those of the CPUs; false where there are not so many CPUs or seats, or no memory.
+fn add_seats<J: MachineBrand>(
     core: &mut Core<J, Rotating>,
+    seats: &mut Vec<Seat<J>>,
     race: Race,
-) -> Option<Vec<Runner<J>>> {
-    let mut runners = Vec::new(alloc);
-    for number in 0..race.cpus {
-        let task = Task::Tests(Cpu::new(number)?);
-        if !add(core, &mut runners, task) {
-            return None;
+) -> bool {
+    if race.cpus > 0 && Cpu::new(race.cpus.saturating_sub(1)).is_none() {
+        return false;
+    }
+    for _ in 0..race.cpus.saturating_add(race.lookers) {
+        if !add_seat(core, seats) {
+            return false;
         }
     }
-    for _ in 0..race.lookers {
-        if !add(core, &mut runners, Task::Looks) {
-            return None;
-        }
+    true
+}
+
+/// The subchannel is enabled from the first seat, where there is one; false where that is refused.
+fn enables<J: MachineBrand>(core: &mut Core<J, Rotating>, seats: &mut Vec<Seat<J>>) -> bool {
+    match (Place::last_of(1), seats.get_mut(0)) {
+        (Some(place), Some(first)) => core.enter(first, place.enabling()).is_ok(),
+        (Some(_), None) => true,
+        (None, _) => false,
     }
-    Some(runners)
 }
 
-/// The seats of these runners behind the first one, and how many instructions and looks were answered to them.
-fn gathered<J: MachineBrand>(
-    alloc: Global,
-    first: Seat<J>,
-    runners: Vec<Runner<J>>,
-) -> Result<(Vec<Seat<J>>, u64, u64), AllocError> {
-    let mut seats = Vec::new(alloc);
-    seats.push(first)?;
-    let mut instructions = 0u64;
-    let mut looks = 0u64;
-    for runner in runners {
-        let Runner {
-            seat,
-            task,
-            answered,
-        } = runner;
-        seats.push(seat)?;
-        match task {
-            Task::Tests(_) => instructions = instructions.saturating_add(answered),
-            Task::Looks => looks = looks.saturating_add(answered),
-        }
-    }
-    Ok((seats, instructions, looks))
-}
-
-/// The runners run: what came of it, with all seats; None where there are no runners, or no memory.
-fn ran<J: MachineBrand + Send + Sync, R: Threads + Wait + Sync>(
-    rt: &R,
-    alloc: Global,
-    machine: &Machine<J, Rotating>,
-    first: Seat<J>,
-    runners: Option<Vec<Runner<J>>>,
-    times: u64,
-) -> Option<(Vec<Seat<J>>, u64, u64)> {
-    let mut runners = runners?;
-    for_each_mut(
-        rt,
-        runners.as_mut_slice(),
-        32,
-        &|_, runner| { runner.run(rt, machine, times) },
-    );
-    gathered(alloc, first, runners).ok()
-}
-
-/// What all seats did, and whether the audit found all of it in the history.
-fn counted<J: MachineBrand>(
-    core: Core<J, Rotating>,
-    seats: Vec<Seat<J>>,
-    instructions: u64,
-    looks: u64,
-) -> RaceCount {
+/// Whether the audit finds all that the seats did in the history, and no entry is lost.
+fn is_whole<J: MachineBrand>(core: Core<J, Rotating>, seats: Vec<Seat<J>>) -> bool {
     let entries = core.subsystem().history().len() as u64;
     let audited = audit(&core, seats.as_slice());
     let closed = core.close(seats);
-    RaceCount {
-        instructions,
-        looks,
-        audited: audited && closed == Some(entries),
-    }
-}
-
-/// All runners run at this core, once the seat has made it ready.
-fn race_from<J: MachineBrand + Send + Sync, R: Threads + Wait + Sync>(
-    rt: &R,
-    alloc: Global,
-    core: Core<J, Rotating>,
-    seat: Seat<J>,
-    race: Race,
-) -> Option<RaceCount> {
-    let mut core = core;
-    let runners = runners_of(alloc, &mut core, race);
-    let (machine, stock) = Machine::new(core);
-    let ran = ran(rt, alloc, &machine, seat, runners, race.times);
-    let core = machine.into_core(stock);
-    let (seats, instructions, looks) = ran?;
-    Some(counted(core, seats, instructions, looks))
+    audited && closed == Some(entries)
 }
 
 /// All run at one locked core; None where there are not so many CPUs or seats, or no memory.
-pub fn run_race<J: MachineBrand + Send + Sync, R: Threads + Wait + Sync>(
+pub fn raced<J: MachineBrand + Send + Sync, R: Threads + Wait + Sync>(
     rt: &R,
     alloc: Global,
-    seated: Seated<J>,
+    core: Core<J, Rotating>,
     race: Race,
 ) -> Option<RaceCount> {
-    let bench = Bench::at(alloc, seated, Kind::Test, 1)?;
-    let Seated {
-        guarded,
-        stock,
-        seat,
-        report: _,
-    } = bench.into_floor();
-    race_from(rt, alloc, Core::join(guarded, stock), seat, race)
+    let mut core = core;
+    let mut seats = Vec::new(alloc);
+    let ready = add_seats(&mut core, &mut seats, race) && enables(&mut core, &mut seats);
+    let (machine, stock) = Machine::new(core);
+    let answered = Answered::new();
+    let race = race.when(ready);
+    for_each_mut(
+        rt,
+        seats.as_mut_slice(),
+        32,
+        &|index, seat| { race.run(rt, &machine, index, seat, &answered) },
+    );
+    let audited = is_whole(machine.into_core(stock), seats);
+    if ready {
+        Some(answered.count(audited))
+    } else {
+        None
+    }
 }

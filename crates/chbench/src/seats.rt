@@ -5,10 +5,9 @@ ghost use Rattle.machine_model.specs.State.{opening_of};
 ghost use Rattle.subsystem.specs.Keeping.{all_serials};
 ghost use Rattle.glance_directory.specs.Directory.{directory_of};
 
-use crate::bench::{Bench, Count, config_of};
-use crate::cycle::Kind;
-use crate::floor::{ReportSlot, Seated};
-use crate::race::{Race, RaceCount, run_race};
+use crate::bench::{Count, Work, config_of, measured};
+use crate::floor::Seated;
+use crate::race::{Race, RaceCount, raced};
 use channel_config::config::Config;
 use core_lock::locked::Core;
 use core_lock::naming::MachineBrand;
@@ -23,12 +22,8 @@ use subsystem::subsystem::Subsystem;
 /// What is to be performed at a core.
 #[derive(Clone, Copy)]
 pub enum Task {
-    /// So many cycles of this kind at the last of so many subchannels, by one seat.
-    Cycles {
-        kind: Kind,
-        subchannels: u32,
-        cycles: u64,
-    },
+    /// Cycles, by one seat.
+    Cycles(Work),
     /// A race at one subchannel.
     Race(Race),
 }
@@ -41,62 +36,47 @@ pub enum Outcome {
 }
 
 impl Task {
-    fn kind(self) -> Kind {
+    /// The machine at whose core it is performed. None where there are not so many subchannels.
+    fn config(self, alloc: Global) -> Option<Config> {
         match self {
-            Task::Cycles { kind, .. } => kind,
-            Task::Race(_) => Kind::Test,
+            Task::Cycles(work) => work.config(alloc),
+            Task::Race(_) => config_of(alloc, 1, 1),
         }
     }
 
-    fn subchannels(self) -> u32 {
+    /// Performs it at a core.
+    fn performed<J: MachineBrand + Send + Sync, R: Threads + Wait + Sync>(
+        self,
+        rt: &R,
+        alloc: Global,
+        core: Core<J, Rotating>,
+    ) -> Option<Outcome> {
         match self {
-            Task::Cycles { subchannels, .. } => subchannels,
-            Task::Race(_) => 1,
+            Task::Cycles(work) => match cycled(alloc, core, work) {
+                Some(count) => Some(Outcome::Count(count)),
+                None => None,
+            },
+            Task::Race(race) => match raced(rt, alloc, core, race) {
+                Some(count) => Some(Outcome::Race(count)),
+                None => None,
+            },
         }
-    }
-}
-
-/// A core with its first seat.
-fn with_seat<J: MachineBrand>(core: Core<J, Rotating>) -> Option<Seated<J>> {
-    let mut core = core;
-    let seat = core.seat().ok()?;
-    let (guarded, stock) = core.split();
-    Some(Seated {
-        guarded,
-        stock,
-        seat,
-        report: ReportSlot::new(),
-    })
-}
-
-/// A core of this name, with its first seat.
-fn seated<J: MachineBrand>(alloc: Global, config: Config, parts: Parts) -> Option<Seated<J>>
-    requires named { parts.name ≡ J.name }
-    requires set_up { J.setup ≡ config }
-    requires directory { parts.name.directory ≡ directory_of (opening_of config) }
-    requires serials { parts.serials ≡ all_serials (opening_of config) }
-{
-    let subsystem = Subsystem::new(alloc, config, Rotating).ok()?;
-    match Core::<J, Rotating>::new(alloc, subsystem, parts) {
-        Ok(core) => with_seat(core),
-        Err(_) => None,
     }
 }
 
 /// Cycles at a core, by its first seat.
-fn cycled<J: MachineBrand>(
-    alloc: Global,
-    seated: Seated<J>,
-    kind: Kind,
-    subchannels: u32,
-    cycles: u64,
-) -> Option<Count> {
-    let mut bench = Bench::at(alloc, seated, kind, subchannels)?;
-    bench.measure(alloc, kind, cycles).ok()
+fn cycled<J: MachineBrand>(alloc: Global, core: Core<J, Rotating>, work: Work) -> Option<Count> {
+    let mut core = core;
+    let seat = core.seat();
+    let (guarded, _stock) = core.split();
+    match seat {
+        Ok(seat) => measured(alloc, &mut Seated { guarded, seat }, work),
+        Err(_) => None,
+    }
 }
 
 /// Performs a task at a core of this name.
-fn performed<J: MachineBrand + Send + Sync, R: Threads + Wait + Sync>(
+fn at_core<J: MachineBrand + Send + Sync, R: Threads + Wait + Sync>(
     rt: &R,
     alloc: Global,
     config: Config,
@@ -108,20 +88,20 @@ fn performed<J: MachineBrand + Send + Sync, R: Threads + Wait + Sync>(
     requires directory { parts.name.directory ≡ directory_of (opening_of config) }
     requires serials { parts.serials ≡ all_serials (opening_of config) }
 {
-    let seated = seated::<J>(alloc, config, parts)?;
-    match task {
-        Task::Cycles {
-            kind,
-            subchannels,
-            cycles,
-        } => Some(Outcome::Count(cycled(alloc, seated, kind, subchannels, cycles)?)),
-        Task::Race(race) => Some(Outcome::Race(run_race(rt, alloc, seated, race)?)),
+    let Ok(subsystem) = Subsystem::new(alloc, config, Rotating) else {
+        return None;
+    };
+    match Core::<J, Rotating>::new(alloc, subsystem, parts) {
+        Ok(core) => task.performed(rt, alloc, core),
+        Err(_) => None,
     }
 }
 
 /// Performs a task at a core of its own; None where there are not so many subchannels, CPUs or seats, or no memory.
 pub fn perform<R: Threads + Wait + Sync>(rt: &R, alloc: Global, task: Task) -> Option<Outcome> {
-    let config = config_of(alloc, task.subchannels(), task.kind().paths())?;
-    let parts = Parts::new(alloc, &config).ok()?;
-    performed::<Brand, R>(rt, alloc, config, parts, task)
+    let config = task.config(alloc)?;
+    match Parts::new(alloc, &config) {
+        Ok(parts) => at_core::<Brand, R>(rt, alloc, config, parts, task),
+        Err(_) => None,
+    }
 }

@@ -2,7 +2,6 @@
 
 mod crowd_tests;
 mod crowds;
-mod draws;
 mod gate_tests;
 mod growths_tests;
 mod idle_tests;
@@ -14,5 +13,4 @@ mod replaying;
 mod scenarios;
 mod seats_tests;
 mod stale_tests;
-mod storm_tests;
 mod workers_tests;

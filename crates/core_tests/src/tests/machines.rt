@@ -50,7 +50,7 @@ pub fn apart(alloc: Global, subchannels: u32) -> Config {
 }
 
 /// Bytes are put into storage.
-pub fn put(address: u32, bytes: &[u8]) -> Event {
+fn put(address: u32, bytes: &[u8]) -> Event {
     let mut chunk = Chunk::new();
     for byte in bytes {
         if chunk.len() < 256 {

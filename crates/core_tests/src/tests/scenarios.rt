@@ -7,7 +7,6 @@ ghost use Rattle.subsystem.specs.Keeping.{all_serials};
 ghost use Rattle.glance_directory.specs.Directory.{directory_of};
 
 use crate::tests::crowd_tests::{answered, are_enough, begins_crowd, crowds, has_been_disturbed};
-use crate::tests::draws::config;
 use crate::tests::gate_tests::{begins_both, meets};
 use crate::tests::growths_tests::{STARVED, granting, grows, starves};
 use crate::tests::idle_tests::{are_beside, begins_idle, idles};
@@ -17,7 +16,6 @@ use crate::tests::racers::{Racer, seats_of};
 use crate::tests::replaying::replays;
 use crate::tests::seats_tests::{answers, fills, leaves_out, sees};
 use crate::tests::stale_tests::{begins_late, comes_late, has_dropped, is_refused};
-use crate::tests::storm_tests::{are_all, has_stormed, storms};
 use crate::tests::workers_tests::{begins_work, has_roamed, roams};
 use channel_config::config::Config;
 use core_lock::locked::{Core, NotMade, Seat, audit};
@@ -52,8 +50,6 @@ pub enum Scenario {
     Roams,
     /// Many threads enter many events.
     Crowds,
-    /// A million events are drawn.
-    Storms,
     /// Requests for memory are refused.
     Grows,
     /// The same of many entries.
@@ -75,7 +71,6 @@ pub fn setting(alloc: Global, scenario: Scenario) -> Config {
         | Scenario::Idles
         | Scenario::ComesLate => config_of(alloc, 1, &[0x10]),
         Scenario::Meets => apart(alloc, 2),
-        Scenario::Storms => config(alloc),
         Scenario::Roams => config_of(alloc, 1, &[0x10, 0x11, 0x12, 0x13, 0x14, 0x15, 0x16, 0x17]),
         Scenario::Crowds => config_of(alloc, 64, &[0x10, 0x11, 0x12, 0x13, 0x14, 0x15, 0x16, 0x17]),
     }
@@ -115,7 +110,6 @@ fn enters<J: MachineBrand>(
         Scenario::Looks => begins_looks(core, first, racers),
         Scenario::Roams => begins_work(alloc, core, first, racers),
         Scenario::Crowds => begins_crowd(alloc, core, first, racers),
-        Scenario::Storms => storms(core, first),
         Scenario::Grows => grows(core, first, racers),
         Scenario::Starves => starves(core, first),
         Scenario::Idles => begins_idle(core, racers),
@@ -208,9 +202,6 @@ fn is_shown<J: MachineBrand>(
             Scenario::Roams => has_roamed(&history),
             Scenario::ComesLate => has_dropped(&history),
             Scenario::Starves => replays(alloc, setting(alloc, scenario), &history),
-            Scenario::Storms => {
-                has_stormed(&history) && replays(alloc, setting(alloc, scenario), &history)
-            }
             Scenario::Crowds => {
                 has_been_disturbed(&history) && replays(alloc, setting(alloc, scenario), &history)
             }
@@ -230,7 +221,6 @@ fn are_due(scenario: Scenario, answered: u64, entries: Option<u64>) -> bool {
         Scenario::Meets | Scenario::Roams | Scenario::ComesLate => entries.is_some(),
         Scenario::Looks => has_made(entries),
         Scenario::Crowds => are_enough(answered, entries),
-        Scenario::Storms => are_all(entries),
         Scenario::Idles => are_beside(answered, entries),
     }
 }

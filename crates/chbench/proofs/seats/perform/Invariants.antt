@@ -1,4 +1,4 @@
 use Rattle.chbench.proofs.seats.perform.Given as goal
 
-abbrev pub ghosts-performed : goal.ghosts-performed
-ghosts-performed g a = record { name = a.parts.name; setup = a.config }
+abbrev pub ghosts-at_core : goal.ghosts-at_core
+ghosts-at_core g a = record { name = a.parts.name; setup = a.config }
