@@ -7,6 +7,10 @@ use Rattle.std.specs.List.{filter}
 use Rattle.step_records.specs.declared.record.Fact.{Fact}
 use Rattle.step_records.specs.declared.record.Fact.TheVariants as fact
 use Rattle.step_records.specs.declared.record.Record.{Record}
+use Rattle.step_records.specs.declared.record.Wire.{Wire}
+use Rattle.step_records.specs.declared.record.Moved.{Moved}
+use Rattle.step_records.specs.declared.record.Signal.{Signal}
+use Rattle.chan_model.specs.declared.hold_state.HoldState.{HoldState}
 use Rattle.step_facts.specs.Told.{AnsweredLine, Told, answered_by, facts_where, is_hold, is_move, is_other, only, told_behind, told_of, told_with, with_holds, with_moves}
 
 facts-push : (is : Fact → Bool) (rs : List Record) (r : Record) → facts_where is (rs ++ r ∷ []) ≡ facts_where is rs ++ only is r.fact
@@ -38,14 +42,11 @@ told_quiet told (fact.Signal w m s) h = cc
 told_quiet told (fact.Hold s b a) h = cc
 told_quiet told f h = from_parts told.line told.before _ _ _ _ _ _ (append-nil told.answers) (append-nil told.moves) (append-nil told.holds)
 
--- a fact of a kind tells itself
-pub told_move : (told : Told) (f : Fact) → is_move f ≡ true → told_with told f ≡ with_moves told (f ∷ [])
-told_move told (fact.Signal w m s) h = from_parts told.line told.before _ _ _ _ _ _ (append-nil told.answers) refl (append-nil told.holds)
-told_move told f h = cc
+pub told_move : (told : Told) (w : Wire) (m : Moved) (s : Signal) → told_with told (fact.Signal w m s) ≡ with_moves told (fact.Signal w m s ∷ [])
+told_move told w m s = from_parts told.line told.before _ _ _ _ _ _ (append-nil told.answers) refl (append-nil told.holds)
 
-pub told_hold : (told : Told) (f : Fact) → is_hold f ≡ true → told_with told f ≡ with_holds told (f ∷ [])
-told_hold told (fact.Hold n b a) h = from_parts told.line told.before _ _ _ _ _ _ (append-nil told.answers) (append-nil told.moves) refl
-told_hold told f h = cc
+pub told_hold : (told : Told) (n : ℕ) (b a : HoldState) → told_with told (fact.Hold n b a) ≡ with_holds told (fact.Hold n b a ∷ [])
+told_hold told n b a = from_parts told.line told.before _ _ _ _ _ _ (append-nil told.answers) (append-nil told.moves) refl
 
 pub no_moves : (told : Told) → with_moves told [] ≡ told
 no_moves told = from_parts told.line told.before _ _ _ _ _ _ refl (append-nil told.moves) refl

@@ -98,11 +98,6 @@ with_moves told facts = record told { moves = told.moves ++ facts }
 abbrev pub with_holds : Told → List Fact → Told
 with_holds told facts = record told { holds = told.holds ++ facts }
 
--- a fact alone, where there is one
-abbrev pub listed : Option Fact → List Fact
-listed None = []
-listed (Some f) = f ∷ []
-
 -- only signals that moved were told, or only holds that changed
 abbrev pub OnlyMoved : Told → Told → Type 0
 OnlyMoved old new = (new.line ≡ old.line) × (new.before ≡ old.before) × (new.answers ≡ old.answers) × (new.holds ≡ old.holds)

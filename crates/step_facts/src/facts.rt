@@ -9,15 +9,12 @@ ghost use Rattle.step_facts.specs.Told.{OnlyHeld, with_holds};
 mod channel_paths;
 mod data;
 pub mod holds;
+mod losses;
 mod moves;
 pub mod statuses;
 pub mod subchannels;
-mod topics;
 pub mod units;
-mod wire_changes;
 
-use crate::facts::subchannels::SubchannelTopic;
-use crate::facts::topics::{Topic, add_each};
 use crate::requests::Requests;
 use crate::step::{Step, StepFacts};
 use machine::looks::Looks;
@@ -43,13 +40,12 @@ pub fn add_facts<S: Supply, L: Looks>(
     ensures unrefused { OnOk result (S.refused supply.new ≡ S.refused supply.old) }
     ensures memory { result ≡ Err fault_spec.NoMemory → S.refused supply.new ≡ true }
 {
-    let paths = step.before.up.len();
-    add_each(supply, step, &[Topic::Path], paths, facts)?;
-    facts.push_moved(supply, moves::met_fact(step)?)?;
-    wire_changes::add_lost(supply, step, looks, facts)?;
+    channel_paths::add_paths(supply, step, facts)?;
+    moves::add_met(supply, step, facts)?;
+    losses::add_lost(supply, step, looks, facts)?;
     add_inner_facts(supply, step, requests, facts)?;
     moves::add_sent(supply, step, looks, facts)?;
-    add_each(supply, step, &[Topic::LastAct], 1, facts)?;
+    units::add_last_acts(supply, step, facts)?;
     Ok(())
 }
 
@@ -67,29 +63,13 @@ fn add_inner_facts<S: Supply>(
     ensures memory { OnErr result (S.refused supply.new ≡ true) }
 {
     holds::add_holds(supply, step, false, facts)?;
-    add_changes(supply, step, facts)?;
+    units::add_first_acts(supply, step, facts)?;
+    subchannels::add_changes(supply, step, facts)?;
+    data::add_data(supply, step, facts)?;
+    statuses::add_made(supply, step, facts)?;
+    statuses::add_cleared(supply, step, facts)?;
     requests.add_changes(supply, step, facts)?;
     holds::add_holds(supply, step, true, facts)?;
-    add_each(supply, step, &topics::UNITS, step.before.units.len(), facts)?;
-    add_each(supply, step, &[Topic::Attention, Topic::Report], 1, facts)
-}
-
-/// What a device did before its unit sent a signal, and what became of the subchannels, their data and their statuses.
-fn add_changes<S: Supply>(
-    supply: &mut S,
-    step: &Step<'_>,
-    facts: &mut StepFacts,
-) -> Result<(), AllocError>
-    ensures kept { facts.new ≡ facts.old }
-    ensures unrefused { OnOk result (S.refused supply.new ≡ S.refused supply.old) }
-    ensures memory { OnErr result (S.refused supply.new ≡ true) }
-{
-    let made = [Topic::Subchannel(SubchannelTopic::StatusMade)];
-    let cleared = [Topic::Subchannel(SubchannelTopic::StatusCleared)];
-    let subchannels = step.before.subchannels.len();
-    add_each(supply, step, &[Topic::FirstAct], 1, facts)?;
-    add_each(supply, step, &topics::SUBCHANNELS, subchannels, facts)?;
-    add_each(supply, step, &topics::DATA, 1, facts)?;
-    add_each(supply, step, &made, subchannels, facts)?;
-    add_each(supply, step, &cleared, subchannels, facts)
+    units::add_units(supply, step, facts)?;
+    channel_paths::add_reports(supply, step, facts)
 }

@@ -1,7 +1,6 @@
 //! The requests for I/O interruptions that wait: of each subchannel the subclass of its request.
 
-ghost use Rattle.std.specs.Prelude.{◌≡◌, IfSome, OnErr, OnOk, true};
-ghost use Rattle.step_facts.specs.Told.{is_other};
+ghost use Rattle.std.specs.Prelude.{◌≡◌, OnErr, OnOk, true};
 
 use crate::step::{Step, StepFacts};
 use chan_events::event::{Event, Instruction};
@@ -9,6 +8,7 @@ use chan_events::reply::{KeptReply, Reply};
 use chan_model::answer::Answer;
 use channel_config::names::SubchannelId;
 use memory::{Supply, push};
+use scsw_irb::code::IntCode;
 use std::alloc::{AllocError, Global};
 use step_records::record::{Fact, RequestChange};
 
@@ -31,21 +31,26 @@ fn drops(instruction: Instruction, reply: &KeptReply) -> bool {
     }
 }
 
-/// The subchannel whose request a step takes away, and how: an instruction drops it, or TEST PENDING INTERRUPTION takes it out.
-fn taken_by(step: &Step<'_>) -> Option<(usize, RequestChange)> {
-    match (step.event().0, step.reply().0) {
-        (Event::Execute { instruction, .. }, reply) if drops(*instruction, reply) => {
-            Some((step.subchannel?, RequestChange::Dropped))
-        }
-        (_, Reply::Interruption(Some(code))) => {
-            let id = SubchannelId {
-                set: code.set,
-                number: code.subchannel,
-            };
-            Some((step.parties.subchannel_of_id(id)?, RequestChange::TakenOut))
-        }
-        _ => None,
-    }
+#[inline(never)]
+fn push_request<S: Supply>(
+    supply: &mut S,
+    subchannel: usize,
+    subclass: u8,
+    change: RequestChange,
+    facts: &mut StepFacts,
+) -> Result<(), AllocError>
+    ensures kept { facts.new ≡ facts.old }
+    ensures unrefused { OnOk result (S.refused supply.new ≡ S.refused supply.old) }
+    ensures memory { OnErr result (S.refused supply.new ≡ true) }
+{
+    facts.push(
+        supply,
+        Fact::Request {
+            subchannel,
+            subclass,
+            change,
+        },
+    )
 }
 
 impl Requests {
@@ -87,26 +92,39 @@ impl Requests {
         ensures unrefused { OnOk result (S.refused supply.new ≡ S.refused supply.old) }
         ensures memory { OnErr result (S.refused supply.new ≡ true) }
     {
-        if let Event::SystemReset = step.event().0 {
-            self.drop_all(supply, facts)?;
-        } else if let Some((subchannel, change)) = taken_by(step) {
-            facts.push_some(supply, self.take(subchannel, change))?;
+        match (step.event().0, step.reply().0) {
+            (Event::SystemReset, _) => self.drop_all(supply, facts)?,
+            (Event::Execute { instruction, .. }, reply) if drops(*instruction, reply) => {
+                if let Some(subchannel) = step.subchannel {
+                    self.take(supply, subchannel, RequestChange::Dropped, facts)?;
+                }
+            }
+            (_, Reply::Interruption(Some(code))) => self.take_out(supply, step, *code, facts)?,
+            _ => {}
         }
         self.post_all(supply, step, facts)
     }
 
     /// The request of a subchannel goes, where there is one.
-    fn take(&mut self, subchannel: usize, change: RequestChange) -> Option<Fact>
-        ensures { IfSome result (λ fact. is_other fact ≡ true) }
+    fn take<S: Supply>(
+        &mut self,
+        supply: &mut S,
+        subchannel: usize,
+        change: RequestChange,
+        facts: &mut StepFacts,
+    ) -> Result<(), AllocError>
+        ensures kept { facts.new ≡ facts.old }
+        ensures unrefused { OnOk result (S.refused supply.new ≡ S.refused supply.old) }
+        ensures memory { OnErr result (S.refused supply.new ≡ true) }
     {
-        let standing = self.standing.as_mut_slice().get_mut(subchannel)?;
-        let subclass = (*standing)?;
+        let Some(standing) = self.standing.as_mut_slice().get_mut(subchannel) else {
+            return Ok(());
+        };
+        let Some(subclass) = *standing else {
+            return Ok(());
+        };
         *standing = None;
-        Some(Fact::Request {
-            subchannel,
-            subclass,
-            change,
-        })
+        push_request(supply, subchannel, subclass, change, facts)
     }
 
     /// All requests go.
@@ -120,31 +138,34 @@ impl Requests {
         ensures memory { OnErr result (S.refused supply.new ≡ true) }
     {
         for subchannel in 0..self.standing.len() {
-            facts.push_some(supply, self.take(subchannel, RequestChange::Dropped))?;
+            self.take(supply, subchannel, RequestChange::Dropped, facts)?;
         }
         Ok(())
     }
 
-    /// Where status was made and no request waits, one is posted, of the subclass that the subchannel has.
-    fn posted_fact(&mut self, step: &Step<'_>, subchannel: usize) -> Option<Fact>
-        ensures { IfSome result (λ fact. is_other fact ≡ true) }
+    /// TEST PENDING INTERRUPTION takes out the request of this code.
+    fn take_out<S: Supply>(
+        &mut self,
+        supply: &mut S,
+        step: &Step<'_>,
+        code: IntCode,
+        facts: &mut StepFacts,
+    ) -> Result<(), AllocError>
+        ensures kept { facts.new ≡ facts.old }
+        ensures unrefused { OnOk result (S.refused supply.new ≡ S.refused supply.old) }
+        ensures memory { OnErr result (S.refused supply.new ≡ true) }
     {
-        let change = step.change(subchannel)?;
-        let standing = self.standing.as_mut_slice().get_mut(subchannel)?;
-        let made = change.after.rest().serials.made;
-        if change.before.rest().serials.made >= made || standing.is_some() {
-            return None;
+        let id = SubchannelId {
+            set: code.set,
+            number: code.subchannel,
+        };
+        match step.parties.subchannel_of_id(id) {
+            Some(subchannel) => self.take(supply, subchannel, RequestChange::TakenOut, facts),
+            None => Ok(()),
         }
-        let subclass = change.after.subclass();
-        *standing = Some(subclass);
-        Some(Fact::Request {
-            subchannel,
-            subclass,
-            change: RequestChange::Posted,
-        })
     }
 
-    /// The requests that a step posted.
+    /// Where status was made and no request waits, one is posted, of the subclass that the subchannel has.
     fn post_all<S: Supply>(
         &mut self,
         supply: &mut S,
@@ -155,9 +176,35 @@ impl Requests {
         ensures unrefused { OnOk result (S.refused supply.new ≡ S.refused supply.old) }
         ensures memory { OnErr result (S.refused supply.new ≡ true) }
     {
-        for subchannel in 0..step.before.subchannels.len() {
-            facts.push_some(supply, self.posted_fact(step, subchannel))?;
+        let count = step.before.subchannels.len();
+        for subchannel in 0..count.min(step.after.subchannels.len()) {
+            let before = step.before.subchannels[subchannel].rest().serials;
+            let after = &step.after.subchannels[subchannel];
+            if before.made < after.rest().serials.made {
+                self.post(supply, subchannel, after.subclass(), facts)?;
+            }
         }
         Ok(())
+    }
+
+    /// A request is posted where none waits.
+    fn post<S: Supply>(
+        &mut self,
+        supply: &mut S,
+        subchannel: usize,
+        subclass: u8,
+        facts: &mut StepFacts,
+    ) -> Result<(), AllocError>
+        ensures kept { facts.new ≡ facts.old }
+        ensures unrefused { OnOk result (S.refused supply.new ≡ S.refused supply.old) }
+        ensures memory { OnErr result (S.refused supply.new ≡ true) }
+    {
+        match self.standing.as_mut_slice().get_mut(subchannel) {
+            Some(standing) if standing.is_none() => {
+                *standing = Some(subclass);
+                push_request(supply, subchannel, subclass, RequestChange::Posted, facts)
+            }
+            _ => Ok(()),
+        }
     }
 }

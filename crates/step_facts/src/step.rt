@@ -1,24 +1,26 @@
 //! One step of a machine, and the list of its facts.
 
-ghost use Rattle.std.specs.Prelude.{◌≡◌, ◌≤◌, IfSome, OnOk, OnErr, length, true};
+ghost use Rattle.std.specs.Prelude.{◌≡◌, ◌≤◌, ◌∷◌, [], OnOk, OnErr, length, true};
 ghost use Rattle.chan_events.specs.Events.{event_in, event_length};
 ghost use Rattle.chan_events.specs.Replies.{reply_in, reply_length};
+ghost use Rattle.chan_model.specs.declared.hold_state.HoldState.{HoldState};
 ghost use Rattle.step_records.specs.Named as named;
 ghost use Rattle.step_facts.specs.Told as spec;
 ghost use Rattle.step_facts.specs.Told.{AreToldBy};
+ghost use Rattle.step_records.specs.declared.record.Fact.TheVariants as fact_spec;
 
 use chan_events::event::{Event, KeptEvent};
 use chan_events::reply::KeptReply;
+use chan_model::hold_state::HoldState;
 use channel_config::parts::PathReturn;
 use event_log::history::LentReply;
-use functions::state::PackedState;
 use machine_sight::sight::Sight;
 use machine_sight::waiting::Waiting;
 use memory::{Supply, ensure_room};
 use std::alloc::AllocError;
 use std::marker::Model;
 use step_records::parties::Parties;
-use step_records::record::{Fact, Record};
+use step_records::record::{Fact, Moved, Record, Signal, Wire};
 
 /// An event as it is kept, its bytes lent.
 #[derive(Drop)]
@@ -52,14 +54,6 @@ pub struct Step<'a> {
     pub event: &'a LentEvent<'a>,
     pub reply: &'a LentReply<'a>,
     pub after: &'a Sight,
-}
-
-/// A subchannel as it was before a step, and as it is after it.
-#[derive(Drop)]
-pub(crate) struct Change<'a> {
-    pub(crate) subchannel: usize,
-    pub(crate) before: &'a PackedState,
-    pub(crate) after: &'a PackedState,
 }
 
 /// The facts of one step, in order, under the number of its line, behind the records that stood there before.
@@ -113,22 +107,7 @@ impl<'a> LentEvent<'a> {
     }
 }
 
-impl<'a> Step<'a> {
-    /// What became of the subchannel of this index; None where it was not seen before and after.
-    pub(crate) fn change(&self, subchannel: usize) -> Option<Change<'a>> {
-        match (
-            self.before.subchannel(subchannel),
-            self.after.subchannel(subchannel),
-        ) {
-            (Some(before), Some(after)) => Some(Change {
-                subchannel,
-                before,
-                after,
-            }),
-            _ => None,
-        }
-    }
-
+impl Step<'_> {
     /// The event: what is kept of it, and its bytes.
     pub fn event(&self) -> (&KeptEvent, &[u8])
         ensures event { event_in result.0.now result.1.now ≡ self.now.event.now }
@@ -197,61 +176,51 @@ impl StepFacts {
         self.add(supply, fact)
     }
 
-    /// Such a fact, where there is one.
-    #[inline(never)]
-    pub(crate) fn push_some<S: Supply>(
+    /// A signal that moved.
+    #[tactic(auto, using(crate::proofs::Telling::told_move))]
+    pub fn push_signal<S: Supply>(
         &mut self,
         supply: &mut S,
-        fact: Option<Fact>,
+        wire: Wire,
+        moved: Moved,
+        signal: Signal,
     ) -> Result<(), AllocError>
-        requires { IfSome fact (λ some. spec.is_other some ≡ true) }
-        ensures told { self.new ≡ self.old }
+        ensures told { OnOk result (self.new ≡ spec.with_moves self.old (fact_spec.Signal wire moved signal ∷ [])) }
+        ensures kept { OnErr result (self.new ≡ self.old) }
         ensures unrefused { OnOk result (S.refused supply.new ≡ S.refused supply.old) }
         ensures memory { OnErr result (S.refused supply.new ≡ true) }
     {
-        match fact {
-            Some(fact) => self.push(supply, fact),
-            None => Ok(()),
-        }
+        self.add(
+            supply,
+            Fact::Signal {
+                wire,
+                moved,
+                signal,
+            },
+        )
     }
 
-    /// A signal that moved, where there is one.
-    #[tactic(auto, using(crate::proofs::Telling::told_move, crate::proofs::Telling::no_moves))]
-    #[inline(never)]
-    pub(crate) fn push_moved<S: Supply>(
+    /// A hold that changed.
+    #[tactic(auto, using(crate::proofs::Telling::told_hold))]
+    pub fn push_hold<S: Supply>(
         &mut self,
         supply: &mut S,
-        fact: Option<Fact>,
+        subchannel: usize,
+        before: HoldState,
+        after: HoldState,
     ) -> Result<(), AllocError>
-        requires { IfSome fact (λ some. spec.is_move some ≡ true) }
-        ensures told { OnOk result (self.new ≡ spec.with_moves self.old (spec.listed fact)) }
-        ensures only { spec.OnlyMoved self.old self.new }
+        ensures told { OnOk result (self.new ≡ spec.with_holds self.old (fact_spec.Hold subchannel before after ∷ [])) }
+        ensures kept { OnErr result (self.new ≡ self.old) }
         ensures unrefused { OnOk result (S.refused supply.new ≡ S.refused supply.old) }
         ensures memory { OnErr result (S.refused supply.new ≡ true) }
     {
-        match fact {
-            Some(fact) => self.add(supply, fact),
-            None => Ok(()),
-        }
-    }
-
-    /// A hold that changed, where one did.
-    #[tactic(auto, using(crate::proofs::Telling::told_hold, crate::proofs::Telling::no_holds))]
-    #[inline(never)]
-    pub(crate) fn push_held<S: Supply>(
-        &mut self,
-        supply: &mut S,
-        fact: Option<Fact>,
-    ) -> Result<(), AllocError>
-        requires { IfSome fact (λ some. spec.is_hold some ≡ true) }
-        ensures told { OnOk result (self.new ≡ spec.with_holds self.old (spec.listed fact)) }
-        ensures only { spec.OnlyHeld self.old self.new }
-        ensures unrefused { OnOk result (S.refused supply.new ≡ S.refused supply.old) }
-        ensures memory { OnErr result (S.refused supply.new ≡ true) }
-    {
-        match fact {
-            Some(fact) => self.add(supply, fact),
-            None => Ok(()),
-        }
+        self.add(
+            supply,
+            Fact::Hold {
+                subchannel,
+                before,
+                after,
+            },
+        )
     }
 }

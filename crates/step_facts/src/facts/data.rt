@@ -1,15 +1,17 @@
 //! The blocks of a program that took control, and the bytes that moved between storage and the wires.
 
-ghost use Rattle.std.specs.Prelude.{◌≡◌, ◌≤◌, length, IfSome, true};
-ghost use Rattle.step_facts.specs.Told.{is_other};
+ghost use Rattle.std.specs.Prelude.{◌≡◌, ◌≤◌, length, IfSome, OnErr, OnOk, true};
 
-use crate::step::Step;
+use crate::step::{Step, StepFacts};
 use ccw_codec::Format;
+use ccw_walk::program::Latest;
 use chan_events::reply::Reply;
 use chan_model::chunk::{Bytes, Chunk};
 use chan_model::signal::{Down, Load, Up};
 use data_move::transfer::Transfer;
 use functions::state::PackedState;
+use memory::Supply;
+use std::alloc::AllocError;
 use step_records::record::{Direction, Fact};
 use subchannel_model::state::ActiveProgram;
 
@@ -30,11 +32,13 @@ fn begun_of(seen: &PackedState) -> Option<&ActiveProgram> {
 }
 
 fn at_work<'a>(step: &Step<'a>) -> Option<AtWork<'a>> {
-    let change = step.change(step.subchannel?)?;
+    let subchannel = step.subchannel?;
+    let before = step.before.subchannels.as_slice().get(subchannel)?;
+    let after = step.after.subchannels.as_slice().get(subchannel)?;
     Some(AtWork {
-        subchannel: change.subchannel,
-        before: begun_of(change.before),
-        after: begun_of(change.after),
+        subchannel,
+        before: begun_of(before),
+        after: begun_of(after),
     })
 }
 
@@ -53,27 +57,22 @@ fn brought<'a>(step: &'a Step<'_>) -> Option<Load<Bytes<'a>>> {
     }
 }
 
-/// What may be told of the program that holds a device.
-#[derive(Clone, Copy)]
-pub(crate) enum DataTopic {
-    /// The bytes of a read that were stored.
-    Stored,
-    /// The block that took control.
-    Block,
-    /// The bytes of a write that were fetched.
-    Fetched,
-}
-
-/// What is told of the program that holds the device of the subchannel that a step names.
-pub(crate) fn data_fact(step: &Step<'_>, topic: DataTopic) -> Option<Fact>
-    ensures { IfSome result (λ fact. is_other fact ≡ true) }
+/// The bytes of a read that were stored, the block that took control, and the bytes of a write that were fetched.
+pub(crate) fn add_data<S: Supply>(
+    supply: &mut S,
+    step: &Step<'_>,
+    facts: &mut StepFacts,
+) -> Result<(), AllocError>
+    ensures kept { facts.new ≡ facts.old }
+    ensures unrefused { OnOk result (S.refused supply.new ≡ S.refused supply.old) }
+    ensures memory { OnErr result (S.refused supply.new ≡ true) }
 {
-    let work = at_work(step)?;
-    match topic {
-        DataTopic::Stored => stored_fact(step, &work),
-        DataTopic::Block => block_fact(step, &work),
-        DataTopic::Fetched => fetched_fact(step, &work),
-    }
+    let Some(work) = at_work(step) else {
+        return Ok(());
+    };
+    add_stored(supply, step, &work, facts)?;
+    add_block(supply, step, &work, facts)?;
+    add_fetched(supply, step, &work, facts)
 }
 
 /// Whether the last chunk that a program moved was refused by storage: a check was found by the step.
@@ -89,25 +88,60 @@ fn is_refused(work: &AtWork<'_>) -> bool {
 }
 
 /// The bytes of a read that were stored: as many as there was room for, where they are not skipped.
-fn stored_fact(step: &Step<'_>, work: &AtWork<'_>) -> Option<Fact>
-    ensures { IfSome result (λ fact. is_other fact ≡ true) }
+fn add_stored<S: Supply>(
+    supply: &mut S,
+    step: &Step<'_>,
+    work: &AtWork<'_>,
+    facts: &mut StepFacts,
+) -> Result<(), AllocError>
+    ensures kept { facts.new ≡ facts.old }
+    ensures unrefused { OnOk result (S.refused supply.new ≡ S.refused supply.old) }
+    ensures memory { OnErr result (S.refused supply.new ≡ true) }
 {
     let (Some(Load::Bytes(bytes)), Some(before)) = (brought(step), work.before) else {
-        return None;
+        return Ok(());
     };
-    let address = before.transfer.moving.place()?;
+    let Some(address) = before.transfer.moving.place() else {
+        return Ok(());
+    };
     let room = usize::from(before.transfer.moving.room());
     let bytes = bytes.as_slice();
     let stored = &bytes[..bytes.len().min(room)];
     if stored.is_empty() || is_refused(work) || !is_new_chunk(work) {
-        return None;
+        return Ok(());
     }
-    Some(Fact::Copy {
-        subchannel: work.subchannel,
-        direction: Direction::Stored,
-        address,
-        bytes: Chunk::of(stored),
-    })
+    push_copy(
+        supply,
+        work.subchannel,
+        Direction::Stored,
+        (address, stored),
+        facts,
+    )
+}
+
+/// Bytes that moved, and the address of the first.
+#[inline(never)]
+fn push_copy<S: Supply>(
+    supply: &mut S,
+    subchannel: usize,
+    direction: Direction,
+    copied: (u32, &[u8]),
+    facts: &mut StepFacts,
+) -> Result<(), AllocError>
+    requires { length copied.1.now ≤ 256 }
+    ensures kept { facts.new ≡ facts.old }
+    ensures unrefused { OnOk result (S.refused supply.new ≡ S.refused supply.old) }
+    ensures memory { OnErr result (S.refused supply.new ≡ true) }
+{
+    facts.push(
+        supply,
+        Fact::Copy {
+            subchannel,
+            direction,
+            address: copied.0,
+            bytes: Chunk::of(copied.1),
+        },
+    )
 }
 
 /// Whether the step went on by a chunk.
@@ -118,23 +152,59 @@ fn is_new_chunk(work: &AtWork<'_>) -> bool {
     }
 }
 
-/// The block that took control: it goes on with the data of the one before where the command is the same.
-fn block_fact(step: &Step<'_>, work: &AtWork<'_>) -> Option<Fact>
-    ensures { IfSome result (λ fact. is_other fact ≡ true) }
+/// The block that took control.
+fn add_block<S: Supply>(
+    supply: &mut S,
+    step: &Step<'_>,
+    work: &AtWork<'_>,
+    facts: &mut StepFacts,
+) -> Result<(), AllocError>
+    ensures kept { facts.new ≡ facts.old }
+    ensures unrefused { OnOk result (S.refused supply.new ≡ S.refused supply.old) }
+    ensures memory { OnErr result (S.refused supply.new ≡ true) }
 {
-    let after = work.after?;
-    let latest = after.transfer.walk.latest()?;
-    let goes_on = is_same_command(work);
-    if goes_on && is_same_block(step, work) {
-        return None;
+    let Some(after) = work.after else {
+        return Ok(());
+    };
+    let Some(latest) = after.transfer.walk.latest() else {
+        return Ok(());
+    };
+    let same_command = is_same_command(work);
+    if same_command && is_same_block(step, work) {
+        return Ok(());
     }
-    Some(Fact::Ccw {
-        subchannel: work.subchannel,
-        address: latest.address,
-        format: format_of(after),
-        ccw: latest.ccw,
-        goes_on,
-    })
+    push_block(
+        supply,
+        work.subchannel,
+        &latest,
+        (format_of(after), same_command),
+        facts,
+    )
+}
+
+/// A block that took control: its format, and whether it goes on with the data of the one before.
+#[inline(never)]
+fn push_block<S: Supply>(
+    supply: &mut S,
+    subchannel: usize,
+    latest: &Latest,
+    taken: (Format, bool),
+    facts: &mut StepFacts,
+) -> Result<(), AllocError>
+    ensures kept { facts.new ≡ facts.old }
+    ensures unrefused { OnOk result (S.refused supply.new ≡ S.refused supply.old) }
+    ensures memory { OnErr result (S.refused supply.new ≡ true) }
+{
+    facts.push(
+        supply,
+        Fact::Ccw {
+            subchannel,
+            address: latest.address,
+            format: taken.0,
+            ccw: latest.ccw,
+            goes_on: taken.1,
+        },
+    )
 }
 
 fn format_of(begun: &ActiveProgram) -> Format {
@@ -210,18 +280,27 @@ fn given<'a>(step: &'a Step<'_>) -> Option<&'a [u8]>
 }
 
 /// The bytes of a write that were fetched, and given.
-fn fetched_fact(step: &Step<'_>, work: &AtWork<'_>) -> Option<Fact>
-    ensures { IfSome result (λ fact. is_other fact ≡ true) }
+fn add_fetched<S: Supply>(
+    supply: &mut S,
+    step: &Step<'_>,
+    work: &AtWork<'_>,
+    facts: &mut StepFacts,
+) -> Result<(), AllocError>
+    ensures kept { facts.new ≡ facts.old }
+    ensures unrefused { OnOk result (S.refused supply.new ≡ S.refused supply.old) }
+    ensures memory { OnErr result (S.refused supply.new ≡ true) }
 {
-    let bytes = given(step)?;
-    let address = work.after?.transfer.moving.place()?;
-    if bytes.is_empty() {
-        return None;
+    let (Some(bytes), Some(after)) = (given(step), work.after) else {
+        return Ok(());
+    };
+    match after.transfer.moving.place() {
+        Some(address) if !bytes.is_empty() => push_copy(
+            supply,
+            work.subchannel,
+            Direction::Fetched,
+            (address, bytes),
+            facts,
+        ),
+        _ => Ok(()),
     }
-    Some(Fact::Copy {
-        subchannel: work.subchannel,
-        direction: Direction::Fetched,
-        address,
-        bytes: Chunk::of(bytes),
-    })
 }

@@ -1,15 +1,15 @@
 //! How the subsystem's side of a subchannel changed.
 
-ghost use Rattle.std.specs.Prelude.{◌≡◌, IfSome, OnOk, length, slice_get, OnErr, true};
+ghost use Rattle.std.specs.Prelude.{◌≡◌, ◌++◌, OnOk, length, slice_get, OnErr, true};
 ghost use Rattle.step_facts.specs.Holds as spec;
-ghost use Rattle.step_facts.specs.Told.{OnlyHeld, is_hold, listed, with_holds};
+ghost use Rattle.step_facts.specs.Told.{OnlyHeld, with_holds};
 
 use crate::step::{Step, StepFacts};
 use chan_model::hold_state::{HoldPhase, HoldState};
 use chan_model::names::Path;
+use functions::state::PackedState;
 use memory::Supply;
 use std::alloc::AllocError;
-use step_records::record::Fact;
 
 /// Whether both are the same path, or both are none.
 fn same_path(one: Option<Path>, other: Option<Path>) -> bool
@@ -77,34 +77,51 @@ fn is_ending(phase: &HoldPhase) -> bool
 }
 
 /// The hold of a subchannel, where it changed and what it became is such a one as is asked for.
-fn hold_fact(subchannel: usize, before: &HoldState, after: &HoldState, ending: bool) -> Option<Fact>
-    ensures told { listed result ≡ spec.hold_change ending subchannel before.now after.now }
-    ensures held { IfSome result (λ fact. is_hold fact ≡ true) }
+#[tactic(auto, using(crate::proofs::Telling::no_holds))]
+fn add_hold<S: Supply>(
+    supply: &mut S,
+    subchannel: usize,
+    seen: (&PackedState, &PackedState),
+    ending: bool,
+    facts: &mut StepFacts,
+) -> Result<(), AllocError>
+    ensures told { OnOk result (facts.new ≡ with_holds facts.old (spec.hold_change ending subchannel seen.entry.0.now.state.hold seen.entry.1.now.state.hold)) }
+    ensures only { OnlyHeld facts.old facts.new }
+    ensures unrefused { OnOk result (S.refused supply.new ≡ S.refused supply.old) }
+    ensures memory { OnErr result (S.refused supply.new ≡ true) }
 {
+    let before = &seen.0.rest().hold;
+    let after = &seen.1.rest().hold;
     if same_bool(is_ending(&after.phase), ending) && !same_hold(before, after) {
-        Some(Fact::Hold {
-            subchannel,
-            before: *before,
-            after: *after,
-        })
+        facts.push_hold(supply, subchannel, *before, *after)
     } else {
-        None
+        Ok(())
     }
 }
 
 /// The same for a subchannel that was seen before and after.
-fn hold_fact_at(step: &Step<'_>, subchannel: usize, ending: bool) -> Option<Fact>
-    ensures told { listed result ≡ spec.hold_change_at ending subchannel (slice_get step.now.before.now.subchannels.items subchannel) (slice_get step.now.after.now.subchannels.items subchannel) }
-    ensures held { IfSome result (λ fact. is_hold fact ≡ true) }
+#[tactic(auto, using(crate::proofs::Telling::no_holds))]
+fn add_hold_at<S: Supply>(
+    supply: &mut S,
+    step: &Step<'_>,
+    subchannel: usize,
+    ending: bool,
+    facts: &mut StepFacts,
+) -> Result<(), AllocError>
+    ensures told { OnOk result (facts.new ≡ with_holds facts.old (spec.hold_change_at ending subchannel (slice_get step.now.before.now.subchannels.items subchannel) (slice_get step.now.after.now.subchannels.items subchannel))) }
+    ensures only { OnlyHeld facts.old facts.new }
+    ensures unrefused { OnOk result (S.refused supply.new ≡ S.refused supply.old) }
+    ensures memory { OnErr result (S.refused supply.new ≡ true) }
 {
-    match (
-        step.before.subchannel(subchannel),
-        step.after.subchannel(subchannel),
-    ) {
-        (Some(before), Some(after)) => {
-            hold_fact(subchannel, &before.rest().hold, &after.rest().hold, ending)
-        }
-        _ => None,
+    match step.before.subchannel(subchannel) {
+        None => Ok(()),
+        Some(before) => match step.after.subchannel(subchannel) {
+            None => Ok(()),
+            Some(after) => {
+                add_hold(supply, subchannel, (before, after), ending, facts)?;
+                Ok(())
+            }
+        },
     }
 }
 
@@ -121,7 +138,7 @@ pub(crate) fn add_holds<S: Supply>(
     ensures memory { OnErr result (S.refused supply.new ≡ true) }
 {
     for subchannel in 0..step.before.subchannels.len() {
-        facts.push_held(supply, hold_fact_at(step, subchannel, ending))?;
+        add_hold_at(supply, step, subchannel, ending, facts)?;
     }
     Ok(())
 }

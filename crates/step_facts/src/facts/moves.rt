@@ -1,25 +1,31 @@
 //! What moved on the wires.
 
 ghost use Rattle.machine_sight.specs.declared.looking.SightFault.TheVariants as fault_spec;
-ghost use Rattle.std.specs.Prelude.{◌≡◌, ◌≢◌, ◌∷◌, [], ℕ, Some, IfOk, IfSome, OnOk, true, Err};
+ghost use Rattle.std.specs.Prelude.{◌≡◌, ◌≢◌, ◌++◌, ◌∷◌, [], ℕ, Some, IfOk, OnOk, false, true, OnErr, Err};
 ghost use Rattle.chan_model.specs.Lent.{lent_down, lent_up};
-ghost use Rattle.chan_model.specs.Signals.{down_in, down_length};
+ghost use Rattle.chan_model.specs.declared.signal.Down.TheVariants as down_spec;
 ghost use Rattle.step_facts.specs.Moves as spec;
-ghost use Rattle.step_facts.specs.Told.{OnlyMoved, is_move, listed, with_moves};
+ghost use Rattle.step_facts.specs.Told.{OnlyMoved, with_moves};
 ghost use Rattle.step_records.specs.declared.record.Fact.TheVariants as fact_spec;
 ghost use Rattle.step_records.specs.declared.record.Signal.TheVariants as signal_spec;
 
-use crate::facts::wire_changes::{WireChange, add_wires};
 use crate::step::{Step, StepFacts};
 use chan_events::event::Event;
 use chan_events::reply::Reply;
 use chan_model::lent::{LentDown, LentUp, PlainDown};
 use chan_model::names::Path;
-use chan_model::signal::{Down, KeptDown};
+use chan_model::signal::Down;
 use machine::looks::Looks;
 use machine_sight::looking::SightFault;
+use machine_sight::waiting::{is_past, signal_at};
 use memory::Supply;
-use step_records::record::{Fact, Moved, Signal, Way, Wire};
+use std::alloc::AllocError;
+use step_records::parties::word_of;
+use step_records::record::{Moved, Signal, Way, Wire};
+use wires::Wires;
+
+/// How many signals a wire holds at most.
+pub(crate) const WIRE_ROOM: usize = 8;
 
 /// The wire of a path of a subchannel. Neither need be there.
 fn wire_at(subchannel: Option<usize>, path: u32, way: Way) -> Result<Wire, SightFault>
@@ -39,44 +45,69 @@ fn wire_at(subchannel: Option<usize>, path: u32, way: Way) -> Result<Wire, Sight
 }
 
 /// A signal down that moved.
-fn down_fact(wire: Wire, moved: Moved, signal: &LentDown<'_>) -> Fact
-    ensures { result ≡ fact_spec.Signal wire moved (signal_spec.Down (lent_down signal.now)) }
+#[inline(never)]
+fn push_down<S: Supply>(
+    supply: &mut S,
+    wire: Wire,
+    moved: Moved,
+    signal: &LentDown<'_>,
+    facts: &mut StepFacts,
+) -> Result<(), AllocError>
+    ensures told { OnOk result (facts.new ≡ with_moves facts.old (fact_spec.Signal wire moved (signal_spec.Down (lent_down signal.now)) ∷ [])) }
+    ensures only { OnlyMoved facts.old facts.new }
+    ensures unrefused { OnOk result (S.refused supply.new ≡ S.refused supply.old) }
+    ensures memory { OnErr result (S.refused supply.new ≡ true) }
 {
-    Fact::Signal {
-        wire,
-        moved,
-        signal: Signal::Down(signal.own()),
-    }
+    facts.push_signal(supply, wire, moved, Signal::Down(signal.own()))
 }
 
 /// A signal up that moved.
-fn up_fact(wire: Wire, moved: Moved, signal: &LentUp<'_>) -> Fact
-    ensures { result ≡ fact_spec.Signal wire moved (signal_spec.Up (lent_up signal.now)) }
+#[inline(never)]
+fn push_up<S: Supply>(
+    supply: &mut S,
+    wire: Wire,
+    moved: Moved,
+    signal: &LentUp<'_>,
+    facts: &mut StepFacts,
+) -> Result<(), AllocError>
+    ensures told { OnOk result (facts.new ≡ with_moves facts.old (fact_spec.Signal wire moved (signal_spec.Up (lent_up signal.now)) ∷ [])) }
+    ensures only { OnlyMoved facts.old facts.new }
+    ensures unrefused { OnOk result (S.refused supply.new ≡ S.refused supply.old) }
+    ensures memory { OnErr result (S.refused supply.new ≡ true) }
 {
-    Fact::Signal {
-        wire,
-        moved,
-        signal: Signal::Up(signal.own()),
-    }
+    facts.push_signal(supply, wire, moved, Signal::Up(signal.own()))
 }
 
 /// The signal that was met at its end of the wire that the event names.
-#[tactic(auto, using(crate::proofs::Telling::same_some))]
-pub(crate) fn met_fact(step: &Step<'_>) -> Result<Option<Fact>, SightFault>
-    ensures told { IfOk result (λ fact. (sub : ℕ) → step.now.subchannel ≡ Some sub → listed fact ≡ spec.met_of sub step.now.event.now step.now.reply.now) }
-    ensures moved { IfOk result (λ fact. IfSome fact (λ some. is_move some ≡ true)) }
-    ensures memory { result ≢ Err fault_spec.NoMemory }
+#[tactic(auto, using(crate::proofs::Telling::no_moves, crate::proofs::Telling::same_some))]
+pub(crate) fn add_met<S: Supply>(
+    supply: &mut S,
+    step: &Step<'_>,
+    facts: &mut StepFacts,
+) -> Result<(), SightFault>
+    ensures told { OnOk result ((sub : ℕ) → step.now.subchannel ≡ Some sub → facts.new ≡ with_moves facts.old (spec.met_of sub step.now.event.now step.now.reply.now)) }
+    ensures only { OnOk result (OnlyMoved facts.old facts.new) }
+    ensures unrefused { OnOk result (S.refused supply.new ≡ S.refused supply.old) }
+    ensures memory { result ≡ Err fault_spec.NoMemory → S.refused supply.new ≡ true }
 {
-    match (step.event().0, step.reply()) {
-        (Event::Up { path, .. }, (Reply::Up { signal, taken, .. }, bytes)) => {
-            let wire = wire_at(step.subchannel, *path, Way::Up)?;
-            Ok(Some(up_fact(wire, Moved::met(*taken), &signal.lend(bytes))))
-        }
-        (Event::Down { path, .. }, (Reply::Down { signal, taken, .. }, bytes)) => {
-            let wire = wire_at(step.subchannel, *path, Way::Down)?;
-            Ok(Some(down_fact(wire, Moved::met(*taken), &signal.lend(bytes))))
-        }
-        _ => Ok(None),
+    match step.event() {
+        (Event::Up { path, .. }, _) => match step.reply() {
+            (Reply::Up { signal, taken, .. }, bytes) => {
+                let wire = wire_at(step.subchannel, *path, Way::Up)?;
+                push_up(supply, wire, Moved::met(*taken), &signal.lend(bytes), facts)?;
+                Ok(())
+            }
+            _ => Ok(()),
+        },
+        (Event::Down { path, .. }, _) => match step.reply() {
+            (Reply::Down { signal, taken, .. }, bytes) => {
+                let wire = wire_at(step.subchannel, *path, Way::Down)?;
+                push_down(supply, wire, Moved::met(*taken), &signal.lend(bytes), facts)?;
+                Ok(())
+            }
+            _ => Ok(()),
+        },
+        _ => Ok(()),
     }
 }
 
@@ -101,19 +132,18 @@ pub(crate) fn add_sent<S: Supply, L: Looks>(
 ) -> Result<(), SightFault>
     ensures told { OnOk result ((sub : ℕ) → step.now.subchannel ≡ Some sub → spec.is_told_by_reply step.now.event.now ≡ true →
         facts.new ≡ with_moves facts.old (spec.sent_of step.now.before.now sub step.now.reply.now)) }
-    ensures only { OnlyMoved facts.old facts.new }
+    ensures only { OnOk result (OnlyMoved facts.old facts.new) }
     ensures unrefused { OnOk result (S.refused supply.new ≡ S.refused supply.old) }
     ensures memory { result ≡ Err fault_spec.NoMemory → S.refused supply.new ≡ true }
 {
-    match step.event().0 {
-        Event::Report { unit, .. } | Event::Act { unit, .. } => {
-            let unit = *unit as usize;
-            add_wires(supply, step, looks, WireChange::New { unit }, facts)?;
+    match step.event() {
+        (Event::Report { unit, .. } | Event::Act { unit, .. }, _) => {
+            add_new(supply, step, looks, *unit as usize, facts)?;
             Ok(())
         }
-        Event::Choose { .. } | Event::Up { .. } | Event::Down { .. } => match step.subchannel {
+        (Event::Choose { .. } | Event::Up { .. } | Event::Down { .. }, _) => match step.subchannel {
             Some(subchannel) => {
-                facts.push_moved(supply, replied_fact(step, subchannel))?;
+                add_replied(supply, step, subchannel, facts)?;
                 Ok(())
             }
             None => Err(SightFault::NotThere),
@@ -123,25 +153,27 @@ pub(crate) fn add_sent<S: Supply, L: Looks>(
 }
 
 /// The signal that the reply says was sent for a subchannel.
-fn replied_fact(step: &Step<'_>, subchannel: usize) -> Option<Fact>
-    ensures told { listed result ≡ spec.sent_of step.now.before.now subchannel step.now.reply.now }
-    ensures moved { IfSome result (λ fact. is_move fact ≡ true) }
+#[tactic(auto, using(crate::proofs::Telling::no_moves))]
+fn add_replied<S: Supply>(
+    supply: &mut S,
+    step: &Step<'_>,
+    subchannel: usize,
+    facts: &mut StepFacts,
+) -> Result<(), AllocError>
+    ensures told { OnOk result (facts.new ≡ with_moves facts.old (spec.sent_of step.now.before.now subchannel step.now.reply.now)) }
+    ensures only { OnlyMoved facts.old facts.new }
+    ensures unrefused { OnOk result (S.refused supply.new ≡ S.refused supply.old) }
+    ensures memory { OnErr result (S.refused supply.new ≡ true) }
 {
     match step.reply() {
         (Reply::Offered { number, path, .. }, _) => {
-            let select = Down::Select { number: *number };
-            Some(sent_plain(step, subchannel, *path, select))
+            send_select(supply, step, subchannel, *number, *path, facts)
         }
         (Reply::ResetSent { number, path }, _) => {
-            let reset = Down::Reset {
-                number: *number,
-                restarts: known_restarts(step, subchannel),
-            };
-            Some(sent_plain(step, subchannel, *path, reset))
+            send_reset(supply, step, subchannel, *number, *path, facts)
         }
         (Reply::HaltSent { number, path }, _) => {
-            let halt = Down::Halt { number: *number };
-            Some(sent_plain(step, subchannel, *path, halt))
+            send_halt(supply, step, subchannel, *number, *path, facts)
         }
         (
             Reply::Up {
@@ -152,7 +184,7 @@ fn replied_fact(step: &Step<'_>, subchannel: usize) -> Option<Fact>
             bytes,
         ) => {
             let sent = on.signal.lend(&bytes[signal.length()..]);
-            Some(sent_down(step, subchannel, on.path, &sent))
+            send_down(supply, step, subchannel, on.path, &sent, facts)
         }
         (
             Reply::Down {
@@ -163,38 +195,106 @@ fn replied_fact(step: &Step<'_>, subchannel: usize) -> Option<Fact>
             bytes,
         ) => {
             let sent = on.signal.lend(&bytes[signal.length()..]);
-            Some(sent_up(step, subchannel, on.path, &sent))
+            send_up(supply, step, subchannel, on.path, &sent, facts)
         }
-        _ => None,
+        _ => Ok(()),
     }
 }
 
-/// A signal without bytes that was sent down.
-fn sent_plain(step: &Step<'_>, subchannel: usize, path: Path, signal: KeptDown) -> Fact
-    requires { down_length signal ≡ 0 }
-    ensures told { result ∷ [] ≡ spec.sent_down step.now.before.now subchannel path (down_in signal []) }
-    ensures moved { is_move result ≡ true }
+/// A program that was offered.
+#[inline(never)]
+fn send_select<S: Supply>(
+    supply: &mut S,
+    step: &Step<'_>,
+    subchannel: usize,
+    number: u64,
+    path: Path,
+    facts: &mut StepFacts,
+) -> Result<(), AllocError>
+    ensures told { OnOk result (facts.new ≡ with_moves facts.old (spec.sent_down step.now.before.now subchannel path (down_spec.Select number))) }
+    ensures only { OnlyMoved facts.old facts.new }
+    ensures unrefused { OnOk result (S.refused supply.new ≡ S.refused supply.old) }
+    ensures memory { OnErr result (S.refused supply.new ≡ true) }
 {
-    let signal = PlainDown::of(signal);
-    sent_down(step, subchannel, path, &signal.lend())
+    let signal = PlainDown::of(Down::Select { number });
+    send_down(supply, step, subchannel, path, &signal.lend(), facts)
+}
+
+/// A Reset.
+#[inline(never)]
+fn send_reset<S: Supply>(
+    supply: &mut S,
+    step: &Step<'_>,
+    subchannel: usize,
+    number: u64,
+    path: Path,
+    facts: &mut StepFacts,
+) -> Result<(), AllocError>
+    ensures told { OnOk result (facts.new ≡ with_moves facts.old (spec.sent_down step.now.before.now subchannel path (down_spec.Reset number (spec.known_restarts step.now.before.now subchannel)))) }
+    ensures only { OnlyMoved facts.old facts.new }
+    ensures unrefused { OnOk result (S.refused supply.new ≡ S.refused supply.old) }
+    ensures memory { OnErr result (S.refused supply.new ≡ true) }
+{
+    let restarts = known_restarts(step, subchannel);
+    let signal = PlainDown::of(Down::Reset { number, restarts });
+    send_down(supply, step, subchannel, path, &signal.lend(), facts)
+}
+
+/// A Halt.
+#[inline(never)]
+fn send_halt<S: Supply>(
+    supply: &mut S,
+    step: &Step<'_>,
+    subchannel: usize,
+    number: u64,
+    path: Path,
+    facts: &mut StepFacts,
+) -> Result<(), AllocError>
+    ensures told { OnOk result (facts.new ≡ with_moves facts.old (spec.sent_down step.now.before.now subchannel path (down_spec.Halt number))) }
+    ensures only { OnlyMoved facts.old facts.new }
+    ensures unrefused { OnOk result (S.refused supply.new ≡ S.refused supply.old) }
+    ensures memory { OnErr result (S.refused supply.new ≡ true) }
+{
+    let signal = PlainDown::of(Down::Halt { number });
+    send_down(supply, step, subchannel, path, &signal.lend(), facts)
 }
 
 /// A signal that was sent down.
-fn sent_down(step: &Step<'_>, subchannel: usize, path: Path, signal: &LentDown<'_>) -> Fact
-    ensures told { result ∷ [] ≡ spec.sent_down step.now.before.now subchannel path (lent_down signal.now) }
-    ensures moved { is_move result ≡ true }
+fn send_down<S: Supply>(
+    supply: &mut S,
+    step: &Step<'_>,
+    subchannel: usize,
+    path: Path,
+    signal: &LentDown<'_>,
+    facts: &mut StepFacts,
+) -> Result<(), AllocError>
+    ensures told { OnOk result (facts.new ≡ with_moves facts.old (spec.sent_down step.now.before.now subchannel path (lent_down signal.now))) }
+    ensures only { OnlyMoved facts.old facts.new }
+    ensures unrefused { OnOk result (S.refused supply.new ≡ S.refused supply.old) }
+    ensures memory { OnErr result (S.refused supply.new ≡ true) }
 {
     let moved = Moved::sent(step.before.is_available(subchannel, path));
-    down_fact(wire_of(subchannel, path, Way::Down), moved, signal)
+    let wire = wire_of(subchannel, path, Way::Down);
+    push_down(supply, wire, moved, signal, facts)
 }
 
 /// A signal that was sent up.
-fn sent_up(step: &Step<'_>, subchannel: usize, path: Path, signal: &LentUp<'_>) -> Fact
-    ensures told { result ∷ [] ≡ spec.sent_up step.now.before.now subchannel path (lent_up signal.now) }
-    ensures moved { is_move result ≡ true }
+fn send_up<S: Supply>(
+    supply: &mut S,
+    step: &Step<'_>,
+    subchannel: usize,
+    path: Path,
+    signal: &LentUp<'_>,
+    facts: &mut StepFacts,
+) -> Result<(), AllocError>
+    ensures told { OnOk result (facts.new ≡ with_moves facts.old (spec.sent_up step.now.before.now subchannel path (lent_up signal.now))) }
+    ensures only { OnlyMoved facts.old facts.new }
+    ensures unrefused { OnOk result (S.refused supply.new ≡ S.refused supply.old) }
+    ensures memory { OnErr result (S.refused supply.new ≡ true) }
 {
     let moved = Moved::sent(step.before.is_available(subchannel, path));
-    up_fact(wire_of(subchannel, path, Way::Up), moved, signal)
+    let wire = wire_of(subchannel, path, Way::Up);
+    push_up(supply, wire, moved, signal, facts)
 }
 
 /// The restart count of its unit that a subchannel knew before.
@@ -204,5 +304,94 @@ fn known_restarts(step: &Step<'_>, subchannel: usize) -> u64
     match step.before.subchannels.as_slice().get(subchannel) {
         Some(sub) => sub.rest().hold.known_restarts,
         None => 0,
+    }
+}
+
+/// The signals that are new on the wires up from a unit.
+fn add_new<S: Supply, L: Looks>(
+    supply: &mut S,
+    step: &Step<'_>,
+    looks: &L,
+    unit: usize,
+    facts: &mut StepFacts,
+) -> Result<(), AllocError>
+    ensures only { OnlyMoved facts.old facts.new }
+    ensures unrefused { OnOk result (S.refused supply.new ≡ S.refused supply.old) }
+    ensures memory { OnErr result (S.refused supply.new ≡ true) }
+{
+    for subchannel in 0..step.parties.subchannels.len() {
+        let setup = &step.parties.subchannels[subchannel];
+        if usize::from(setup.unit) == unit {
+            if let Some(sub) = looks.subchannel(word_of(setup.id)) {
+                add_new_of(supply, step, subchannel, &sub.wires, facts)?;
+            }
+        }
+    }
+    Ok(())
+}
+
+/// Those of a subchannel.
+fn add_new_of<S: Supply>(
+    supply: &mut S,
+    step: &Step<'_>,
+    subchannel: usize,
+    wires: &Wires,
+    facts: &mut StepFacts,
+) -> Result<(), AllocError>
+    ensures only { OnlyMoved facts.old facts.new }
+    ensures unrefused { OnOk result (S.refused supply.new ≡ S.refused supply.old) }
+    ensures memory { OnErr result (S.refused supply.new ≡ true) }
+{
+    for index in 0..8u32 {
+        if let Some(path) = Path::new(index) {
+            add_new_on(
+                supply,
+                step,
+                &wire_of(subchannel, path, Way::Up),
+                wires,
+                facts,
+            )?;
+        }
+    }
+    Ok(())
+}
+
+/// Those of a wire: the latest, as many as wait more.
+fn add_new_on<S: Supply>(
+    supply: &mut S,
+    step: &Step<'_>,
+    wire: &Wire,
+    wires: &Wires,
+    facts: &mut StepFacts,
+) -> Result<(), AllocError>
+    ensures only { OnlyMoved facts.old facts.new }
+    ensures unrefused { OnOk result (S.refused supply.new ≡ S.refused supply.old) }
+    ensures memory { OnErr result (S.refused supply.new ≡ true) }
+{
+    for index in step.waiting.signals(wire).len()..WIRE_ROOM {
+        if is_past(wires, wire.way, wire.path, index) {
+            return Ok(());
+        }
+        push_new(supply, wire, wires, index, facts)?;
+    }
+    Ok(())
+}
+
+/// The signal of this index, which is new on a wire.
+#[inline(never)]
+fn push_new<S: Supply>(
+    supply: &mut S,
+    wire: &Wire,
+    wires: &Wires,
+    index: usize,
+    facts: &mut StepFacts,
+) -> Result<(), AllocError>
+    ensures only { OnlyMoved facts.old facts.new }
+    ensures unrefused { OnOk result (S.refused supply.new ≡ S.refused supply.old) }
+    ensures memory { OnErr result (S.refused supply.new ≡ true) }
+{
+    match signal_at(wires, wire.way, wire.path, index) {
+        Some(signal) => facts.push_signal(supply, *wire, Moved::Sent, signal),
+        None => Ok(()),
     }
 }

@@ -1,12 +1,14 @@
 //! Status that was made and cleared, and why.
 
-ghost use Rattle.std.specs.Prelude.{◌≡◌, IfSome, true};
-ghost use Rattle.step_facts.specs.Told.{is_other};
+ghost use Rattle.std.specs.Prelude.{◌≡◌, OnErr, OnOk, true};
 
-use crate::step::{Change, Step};
+use crate::step::{Step, StepFacts};
 use chan_events::event::{Event, KeptEvent};
 use chan_events::reply::{KeptReply, Reply};
 use chan_model::signal::Up;
+use functions::state::PackedState;
+use memory::Supply;
+use std::alloc::AllocError;
 use step_records::record::{Cause, Fact};
 use zbits::{field, flag};
 
@@ -53,33 +55,83 @@ fn program_cause(words: &[u32; 3]) -> Cause {
     }
 }
 
-/// The last status that was made of a subchannel, where one was.
-pub(crate) fn made_fact(step: &Step<'_>, change: &Change<'_>) -> Option<Fact>
-    ensures { IfSome result (λ fact. is_other fact ≡ true) }
+/// The statuses that were made.
+pub(crate) fn add_made<S: Supply>(
+    supply: &mut S,
+    step: &Step<'_>,
+    facts: &mut StepFacts,
+) -> Result<(), AllocError>
+    ensures kept { facts.new ≡ facts.old }
+    ensures unrefused { OnOk result (S.refused supply.new ≡ S.refused supply.old) }
+    ensures memory { OnErr result (S.refused supply.new ≡ true) }
 {
-    let serial = change.after.rest().serials.made;
-    if change.before.rest().serials.made >= serial {
-        return None;
+    let count = step.before.subchannels.len();
+    for subchannel in 0..count.min(step.after.subchannels.len()) {
+        let before = step.before.subchannels[subchannel].rest().serials;
+        let after = &step.after.subchannels[subchannel];
+        if before.made < after.rest().serials.made {
+            push_made(supply, step, subchannel, after, facts)?;
+        }
     }
-    let words = *change.after.scsw_words();
-    Some(Fact::StatusMade {
-        subchannel: change.subchannel,
-        words,
-        serial,
-        cause: cause_of(step.event().0, step.reply().0, &words),
-    })
+    Ok(())
 }
 
-/// The last status that was cleared of a subchannel, where one was.
-pub(crate) fn cleared_fact(change: &Change<'_>) -> Option<Fact>
-    ensures { IfSome result (λ fact. is_other fact ≡ true) }
+/// The last status that was made.
+#[inline(never)]
+fn push_made<S: Supply>(
+    supply: &mut S,
+    step: &Step<'_>,
+    subchannel: usize,
+    after: &PackedState,
+    facts: &mut StepFacts,
+) -> Result<(), AllocError>
+    ensures kept { facts.new ≡ facts.old }
+    ensures unrefused { OnOk result (S.refused supply.new ≡ S.refused supply.old) }
+    ensures memory { OnErr result (S.refused supply.new ≡ true) }
 {
-    let serial = change.after.rest().serials.cleared;
-    if change.before.rest().serials.cleared >= serial {
-        return None;
+    let words = *after.scsw_words();
+    facts.push(
+        supply,
+        Fact::StatusMade {
+            subchannel,
+            words,
+            serial: after.rest().serials.made,
+            cause: cause_of(step.event().0, step.reply().0, &words),
+        },
+    )
+}
+
+/// The statuses that were cleared.
+pub(crate) fn add_cleared<S: Supply>(
+    supply: &mut S,
+    step: &Step<'_>,
+    facts: &mut StepFacts,
+) -> Result<(), AllocError>
+    ensures kept { facts.new ≡ facts.old }
+    ensures unrefused { OnOk result (S.refused supply.new ≡ S.refused supply.old) }
+    ensures memory { OnErr result (S.refused supply.new ≡ true) }
+{
+    let count = step.before.subchannels.len();
+    for subchannel in 0..count.min(step.after.subchannels.len()) {
+        let before = step.before.subchannels[subchannel].rest().serials;
+        let after = step.after.subchannels[subchannel].rest().serials;
+        if before.cleared < after.cleared {
+            push_cleared(supply, subchannel, after.cleared, facts)?;
+        }
     }
-    Some(Fact::StatusCleared {
-        subchannel: change.subchannel,
-        serial,
-    })
+    Ok(())
+}
+
+#[inline(never)]
+fn push_cleared<S: Supply>(
+    supply: &mut S,
+    subchannel: usize,
+    serial: u64,
+    facts: &mut StepFacts,
+) -> Result<(), AllocError>
+    ensures kept { facts.new ≡ facts.old }
+    ensures unrefused { OnOk result (S.refused supply.new ≡ S.refused supply.old) }
+    ensures memory { OnErr result (S.refused supply.new ≡ true) }
+{
+    facts.push(supply, Fact::StatusCleared { subchannel, serial })
 }

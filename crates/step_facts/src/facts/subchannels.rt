@@ -1,87 +1,101 @@
 //! How the words and the programs of a subchannel changed.
 
-ghost use Rattle.std.specs.Prelude.{◌≡◌, IfSome, true};
-ghost use Rattle.step_facts.specs.Told.{is_other};
+ghost use Rattle.std.specs.Prelude.{◌≡◌, OnErr, OnOk, true};
 
-use crate::facts::statuses::{cleared_fact, made_fact};
-use crate::step::{Change, Step};
+use crate::step::{Step, StepFacts};
 use functions::rest::Rest;
 use functions::state::PackedState;
+use memory::Supply;
+use std::alloc::AllocError;
 use step_records::record::{Fact, Mask, ProgramStage};
+use subchannel_model::state::Program;
 use zbits::flag;
 
 /// The resume-pending bit of word 0 of a subchannel-status word (SA22-7832, chapter 16).
 const RESUME_PENDING: u32 = 20;
 
-/// Where a program stands in a subchannel.
-#[derive(Clone, Copy)]
-pub(crate) enum ProgramPlace {
-    /// It holds the device.
-    Begun,
-    /// It waits to be begun.
-    Waiting,
-    /// It is suspended.
-    Suspended,
-}
-
-/// What may be told of a subchannel.
-#[derive(Clone, Copy)]
-pub(crate) enum SubchannelTopic {
-    /// The ORB of a start that was accepted.
-    Orb,
-    /// The enabled bit, the interruption subclass and the multipath mode.
-    Enabled,
-    /// The first word of the status word.
-    Functions,
-    Mask(Mask),
-    /// The program that stood here before.
-    Program(ProgramPlace),
-    /// The program that stands here, and stood nowhere before.
-    NewProgram(ProgramPlace),
-    StatusMade,
-    StatusCleared,
-}
-
-/// What is told of a subchannel.
-pub(crate) fn subchannel_fact(
-    step: &Step<'_>,
-    topic: SubchannelTopic,
+/// A subchannel before a step and after it.
+#[derive(Drop)]
+struct Change<'a> {
     subchannel: usize,
-) -> Option<Fact>
-    ensures { IfSome result (λ fact. is_other fact ≡ true) }
+    before: &'a PackedState,
+    after: &'a PackedState,
+}
+
+/// What changed of each subchannel.
+pub(crate) fn add_changes<S: Supply>(
+    supply: &mut S,
+    step: &Step<'_>,
+    facts: &mut StepFacts,
+) -> Result<(), AllocError>
+    ensures kept { facts.new ≡ facts.old }
+    ensures unrefused { OnOk result (S.refused supply.new ≡ S.refused supply.old) }
+    ensures memory { OnErr result (S.refused supply.new ≡ true) }
 {
-    let change = step.change(subchannel)?;
-    match topic {
-        SubchannelTopic::Orb => orb_fact(&change),
-        SubchannelTopic::Enabled => enabled_fact(&change),
-        SubchannelTopic::Functions => functions_fact(&change),
-        SubchannelTopic::Mask(mask) => mask_fact(&change, mask),
-        SubchannelTopic::Program(place) => {
-            program_fact(&change, start_at(change.before.rest(), place))
-        }
-        SubchannelTopic::NewProgram(place) => program_fact(&change, new_start_at(&change, place)),
-        SubchannelTopic::StatusMade => made_fact(step, &change),
-        SubchannelTopic::StatusCleared => cleared_fact(&change),
+    let count = step.before.subchannels.len();
+    for subchannel in 0..count.min(step.after.subchannels.len()) {
+        let change = Change {
+            subchannel,
+            before: &step.before.subchannels[subchannel],
+            after: &step.after.subchannels[subchannel],
+        };
+        add_orb(supply, &change, facts)?;
+        add_enabled(supply, &change, facts)?;
+        add_functions(supply, &change, facts)?;
+        add_masks(supply, &change, facts)?;
+        add_programs(supply, &change, facts)?;
     }
+    Ok(())
 }
 
 /// The ORB of a start that was accepted.
-fn orb_fact(change: &Change<'_>) -> Option<Fact>
-    ensures { IfSome result (λ fact. is_other fact ≡ true) }
+fn add_orb<S: Supply>(
+    supply: &mut S,
+    change: &Change<'_>,
+    facts: &mut StepFacts,
+) -> Result<(), AllocError>
+    ensures kept { facts.new ≡ facts.old }
+    ensures unrefused { OnOk result (S.refused supply.new ≡ S.refused supply.old) }
+    ensures memory { OnErr result (S.refused supply.new ≡ true) }
 {
     let after = change.after.rest();
     match &after.waiting {
-        Some(program) if change.before.rest().starts < after.starts => Some(Fact::Orb {
-            subchannel: change.subchannel,
-            orb: program.orb,
-        }),
-        _ => None,
+        Some(program) if change.before.rest().starts < after.starts => {
+            push_orb(supply, change.subchannel, program, facts)
+        }
+        _ => Ok(()),
     }
 }
 
+#[inline(never)]
+fn push_orb<S: Supply>(
+    supply: &mut S,
+    subchannel: usize,
+    program: &Program,
+    facts: &mut StepFacts,
+) -> Result<(), AllocError>
+    ensures kept { facts.new ≡ facts.old }
+    ensures unrefused { OnOk result (S.refused supply.new ≡ S.refused supply.old) }
+    ensures memory { OnErr result (S.refused supply.new ≡ true) }
+{
+    facts.push(
+        supply,
+        Fact::Orb {
+            subchannel,
+            orb: program.orb,
+        },
+    )
+}
+
 /// The enabled bit, the interruption subclass and the multipath mode, where one of them changed.
-fn enabled_fact(change: &Change<'_>) -> Option<Fact>
-    ensures { IfSome result (λ fact. is_other fact ≡ true) }
+fn add_enabled<S: Supply>(
+    supply: &mut S,
+    change: &Change<'_>,
+    facts: &mut StepFacts,
+) -> Result<(), AllocError>
+    ensures kept { facts.new ≡ facts.old }
+    ensures unrefused { OnOk result (S.refused supply.new ≡ S.refused supply.old) }
+    ensures memory { OnErr result (S.refused supply.new ≡ true) }
 {
     let before = change.before;
     let after = change.after;
@@ -89,30 +103,71 @@ fn enabled_fact(change: &Change<'_>) -> Option<Fact>
         && before.subclass() == after.subclass()
         && before.is_multipath() == after.is_multipath()
     {
-        return None;
+        return Ok(());
     }
-    Some(Fact::Enabled {
-        subchannel: change.subchannel,
-        enabled: after.is_enabled(),
-        subclass: after.subclass(),
-        multipath: after.is_multipath(),
-    })
+    push_enabled(supply, change.subchannel, after, facts)
+}
+
+#[inline(never)]
+fn push_enabled<S: Supply>(
+    supply: &mut S,
+    subchannel: usize,
+    after: &PackedState,
+    facts: &mut StepFacts,
+) -> Result<(), AllocError>
+    ensures kept { facts.new ≡ facts.old }
+    ensures unrefused { OnOk result (S.refused supply.new ≡ S.refused supply.old) }
+    ensures memory { OnErr result (S.refused supply.new ≡ true) }
+{
+    facts.push(
+        supply,
+        Fact::Enabled {
+            subchannel,
+            enabled: after.is_enabled(),
+            subclass: after.subclass(),
+            multipath: after.is_multipath(),
+        },
+    )
 }
 
 /// The first word of the status word, where it changed.
-fn functions_fact(change: &Change<'_>) -> Option<Fact>
-    ensures { IfSome result (λ fact. is_other fact ≡ true) }
+fn add_functions<S: Supply>(
+    supply: &mut S,
+    change: &Change<'_>,
+    facts: &mut StepFacts,
+) -> Result<(), AllocError>
+    ensures kept { facts.new ≡ facts.old }
+    ensures unrefused { OnOk result (S.refused supply.new ≡ S.refused supply.old) }
+    ensures memory { OnErr result (S.refused supply.new ≡ true) }
 {
     let before = change.before.scsw_words()[0];
     let after = change.after.scsw_words()[0];
     if before == after {
-        return None;
+        return Ok(());
     }
-    Some(Fact::Functions {
-        subchannel: change.subchannel,
-        before,
-        after,
-    })
+    push_functions(supply, change.subchannel, before, after, facts)
+}
+
+#[inline(never)]
+fn push_functions<S: Supply>(
+    supply: &mut S,
+    subchannel: usize,
+    before: u32,
+    after: u32,
+    facts: &mut StepFacts,
+) -> Result<(), AllocError>
+    ensures kept { facts.new ≡ facts.old }
+    ensures unrefused { OnOk result (S.refused supply.new ≡ S.refused supply.old) }
+    ensures memory { OnErr result (S.refused supply.new ≡ true) }
+{
+    facts.push(
+        supply,
+        Fact::Functions {
+            subchannel,
+            before,
+            after,
+        },
+    )
 }
 
 /// A mask of a subchannel.
@@ -126,58 +181,72 @@ fn mask_of(seen: &PackedState, mask: Mask) -> u8 {
     }
 }
 
-/// A mask, as it was before and as it is after, where it changed.
-fn mask_fact(change: &Change<'_>, mask: Mask) -> Option<Fact>
-    ensures { IfSome result (λ fact. is_other fact ≡ true) }
+/// The masks that changed.
+fn add_masks<S: Supply>(
+    supply: &mut S,
+    change: &Change<'_>,
+    facts: &mut StepFacts,
+) -> Result<(), AllocError>
+    ensures kept { facts.new ≡ facts.old }
+    ensures unrefused { OnOk result (S.refused supply.new ≡ S.refused supply.old) }
+    ensures memory { OnErr result (S.refused supply.new ≡ true) }
 {
-    let before = mask_of(change.before, mask);
-    let after = mask_of(change.after, mask);
-    if before == after {
-        return None;
+    for mask in [
+        Mask::Logical,
+        Mask::NotOperational,
+        Mask::LastUsed,
+        Mask::Operational,
+        Mask::Available,
+    ] {
+        let before = mask_of(change.before, mask);
+        let after = mask_of(change.after, mask);
+        if before != after {
+            push_mask(supply, change.subchannel, mask, (before, after), facts)?;
+        }
     }
-    Some(Fact::Mask {
-        subchannel: change.subchannel,
-        mask,
-        before,
-        after,
-    })
+    Ok(())
 }
 
-/// The start of which the program stands here; None where none does.
-fn start_at(rest: &Rest, place: ProgramPlace) -> Option<u64> {
-    match place {
-        ProgramPlace::Begun => match &rest.begun {
-            Some(begun) => Some(begun.program.start),
-            None => None,
+/// A mask, as it was before and as it is after.
+#[inline(never)]
+fn push_mask<S: Supply>(
+    supply: &mut S,
+    subchannel: usize,
+    mask: Mask,
+    seen: (u8, u8),
+    facts: &mut StepFacts,
+) -> Result<(), AllocError>
+    ensures kept { facts.new ≡ facts.old }
+    ensures unrefused { OnOk result (S.refused supply.new ≡ S.refused supply.old) }
+    ensures memory { OnErr result (S.refused supply.new ≡ true) }
+{
+    facts.push(
+        supply,
+        Fact::Mask {
+            subchannel,
+            mask,
+            before: seen.0,
+            after: seen.1,
         },
-        ProgramPlace::Waiting => match &rest.waiting {
-            Some(waiting) => Some(waiting.start),
-            None => None,
-        },
-        ProgramPlace::Suspended => match &rest.suspended {
-            Some(suspended) => Some(suspended.program.start),
-            None => None,
-        },
-    }
+    )
 }
 
 /// The starts of which there is a program: that which holds the device, that which waits, that which is suspended.
 fn starts_of(rest: &Rest) -> [Option<u64>; 3] {
     [
-        start_at(rest, ProgramPlace::Begun),
-        start_at(rest, ProgramPlace::Waiting),
-        start_at(rest, ProgramPlace::Suspended),
+        match &rest.begun {
+            Some(begun) => Some(begun.program.start),
+            None => None,
+        },
+        match &rest.waiting {
+            Some(waiting) => Some(waiting.start),
+            None => None,
+        },
+        match &rest.suspended {
+            Some(suspended) => Some(suspended.program.start),
+            None => None,
+        },
     ]
-}
-
-/// The start of which the program stands here, where there was no program of it before.
-fn new_start_at(change: &Change<'_>, place: ProgramPlace) -> Option<u64> {
-    let start = start_at(change.after.rest(), place);
-    if starts_of(change.before.rest()).contains(&start) {
-        None
-    } else {
-        start
-    }
 }
 
 /// How far the program of a start is.
@@ -198,18 +267,67 @@ pub fn stage_of(seen: &PackedState, start: u64) -> ProgramStage {
     }
 }
 
-/// The program of a start, where there is one and it went on.
-fn program_fact(change: &Change<'_>, start: Option<u64>) -> Option<Fact>
-    ensures { IfSome result (λ fact. is_other fact ≡ true) }
+/// The programs that went on.
+fn add_programs<S: Supply>(
+    supply: &mut S,
+    change: &Change<'_>,
+    facts: &mut StepFacts,
+) -> Result<(), AllocError>
+    ensures kept { facts.new ≡ facts.old }
+    ensures unrefused { OnOk result (S.refused supply.new ≡ S.refused supply.old) }
+    ensures memory { OnErr result (S.refused supply.new ≡ true) }
 {
-    let start = start?;
+    let known = starts_of(change.before.rest());
+    for start in known {
+        add_program(supply, change, start, facts)?;
+    }
+    for start in starts_of(change.after.rest()) {
+        if !known.contains(&start) {
+            add_program(supply, change, start, facts)?;
+        }
+    }
+    Ok(())
+}
+
+/// The program of a start, where it went on.
+fn add_program<S: Supply>(
+    supply: &mut S,
+    change: &Change<'_>,
+    start: Option<u64>,
+    facts: &mut StepFacts,
+) -> Result<(), AllocError>
+    ensures kept { facts.new ≡ facts.old }
+    ensures unrefused { OnOk result (S.refused supply.new ≡ S.refused supply.old) }
+    ensures memory { OnErr result (S.refused supply.new ≡ true) }
+{
+    let Some(start) = start else {
+        return Ok(());
+    };
     let stage = stage_of(change.after, start);
     if stage == stage_of(change.before, start) {
-        return None;
+        return Ok(());
     }
-    Some(Fact::Program {
-        subchannel: change.subchannel,
-        start,
-        stage,
-    })
+    push_program(supply, change.subchannel, start, stage, facts)
+}
+
+#[inline(never)]
+fn push_program<S: Supply>(
+    supply: &mut S,
+    subchannel: usize,
+    start: u64,
+    stage: ProgramStage,
+    facts: &mut StepFacts,
+) -> Result<(), AllocError>
+    ensures kept { facts.new ≡ facts.old }
+    ensures unrefused { OnOk result (S.refused supply.new ≡ S.refused supply.old) }
+    ensures memory { OnErr result (S.refused supply.new ≡ true) }
+{
+    facts.push(
+        supply,
+        Fact::Program {
+            subchannel,
+            start,
+            stage,
+        },
+    )
 }

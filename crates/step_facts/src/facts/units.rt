@@ -1,16 +1,17 @@
 //! How units changed, and what their devices did.
 
-ghost use Rattle.std.specs.Prelude.{◌≡◌, ◌≤◌, IfSome, length, true};
+ghost use Rattle.std.specs.Prelude.{◌≡◌, ◌≤◌, OnErr, OnOk, length, true};
 ghost use Rattle.chan_model.specs.Reports.{answer_length};
-ghost use Rattle.step_facts.specs.Told.{is_other};
 
-use crate::step::Step;
+use crate::step::{Step, StepFacts};
 use chan_events::event::Event;
 use chan_events::reply::Reply;
 use chan_model::chunk::{Chunk, ChunkLength};
 use chan_model::report::DeviceAnswer;
 use chan_model::signal::Down;
 use chan_model::unit_state::{Connection, CurrentCommand, Own, Progress, UnitState};
+use memory::Supply;
+use std::alloc::AllocError;
 use step_records::parties::Parties;
 use step_records::record::{CommandAtHand, DeviceAct, Fact, Holder, Owner, Place};
 
@@ -62,78 +63,137 @@ pub fn command_of(seen: &UnitState) -> Option<CommandAtHand> {
     }
 }
 
-/// What may be told of a unit.
-#[derive(Clone, Copy)]
-pub(crate) enum UnitTopic {
-    /// Whom it is held by, and its floor.
-    Owner,
-    /// The command that it has at hand.
-    Command,
-}
-
-/// What is told of a unit, where it changed.
-pub(crate) fn unit_fact(step: &Step<'_>, topic: UnitTopic, unit: usize) -> Option<Fact>
-    ensures { IfSome result (λ fact. is_other fact ≡ true) }
+/// The units whose owner, floor or command changed, and those that learned that their attention was taken.
+pub(crate) fn add_units<S: Supply>(
+    supply: &mut S,
+    step: &Step<'_>,
+    facts: &mut StepFacts,
+) -> Result<(), AllocError>
+    ensures kept { facts.new ≡ facts.old }
+    ensures unrefused { OnOk result (S.refused supply.new ≡ S.refused supply.old) }
+    ensures memory { OnErr result (S.refused supply.new ≡ true) }
 {
-    let before = step.before.units.as_slice().get(unit)?;
-    let after = step.after.units.as_slice().get(unit)?;
-    match topic {
-        UnitTopic::Owner => owner_fact(
+    let count = step.before.units.len();
+    for unit in 0..count.min(step.after.units.len()) {
+        let before = owner_of(step.parties, unit, &step.before.units[unit]);
+        let after = owner_of(step.parties, unit, &step.after.units[unit]);
+        if before != after {
+            push_owner(supply, unit, before, after, facts)?;
+        }
+        add_command(
+            supply,
             unit,
-            owner_of(step.parties, unit, before),
-            owner_of(step.parties, unit, after),
-        ),
-        UnitTopic::Command => command_fact(unit, command_of(before), command_of(after)),
+            &step.before.units[unit],
+            &step.after.units[unit],
+            facts,
+        )?;
     }
+    add_attention(supply, step, facts)
 }
 
-fn owner_fact(unit: usize, before: Owner, after: Owner) -> Option<Fact>
-    ensures { IfSome result (λ fact. is_other fact ≡ true) }
+#[inline(never)]
+fn push_owner<S: Supply>(
+    supply: &mut S,
+    unit: usize,
+    before: Owner,
+    after: Owner,
+    facts: &mut StepFacts,
+) -> Result<(), AllocError>
+    ensures kept { facts.new ≡ facts.old }
+    ensures unrefused { OnOk result (S.refused supply.new ≡ S.refused supply.old) }
+    ensures memory { OnErr result (S.refused supply.new ≡ true) }
 {
-    if before == after {
-        return None;
-    }
-    Some(Fact::Owner {
-        unit,
-        before,
-        after,
-    })
+    facts.push(
+        supply,
+        Fact::Owner {
+            unit,
+            before,
+            after,
+        },
+    )
 }
 
-fn command_fact(
+/// The command at hand of a unit, where it changed.
+fn add_command<S: Supply>(
+    supply: &mut S,
+    unit: usize,
+    before: &UnitState,
+    after: &UnitState,
+    facts: &mut StepFacts,
+) -> Result<(), AllocError>
+    ensures kept { facts.new ≡ facts.old }
+    ensures unrefused { OnOk result (S.refused supply.new ≡ S.refused supply.old) }
+    ensures memory { OnErr result (S.refused supply.new ≡ true) }
+{
+    let before = command_of(before);
+    let after = command_of(after);
+    if before == after {
+        return Ok(());
+    }
+    push_command(supply, unit, before, after, facts)
+}
+
+#[inline(never)]
+fn push_command<S: Supply>(
+    supply: &mut S,
     unit: usize,
     before: Option<CommandAtHand>,
     after: Option<CommandAtHand>,
-) -> Option<Fact>
-    ensures { IfSome result (λ fact. is_other fact ≡ true) }
+    facts: &mut StepFacts,
+) -> Result<(), AllocError>
+    ensures kept { facts.new ≡ facts.old }
+    ensures unrefused { OnOk result (S.refused supply.new ≡ S.refused supply.old) }
+    ensures memory { OnErr result (S.refused supply.new ≡ true) }
 {
-    if before == after {
-        return None;
-    }
-    Some(Fact::Command {
-        unit,
-        before,
-        after,
-    })
+    facts.push(
+        supply,
+        Fact::Command {
+            unit,
+            before,
+            after,
+        },
+    )
 }
 
 /// The unit that learned that its attention was taken.
-pub(crate) fn attention_fact(step: &Step<'_>) -> Option<Fact>
-    ensures { IfSome result (λ fact. is_other fact ≡ true) }
+fn add_attention<S: Supply>(
+    supply: &mut S,
+    step: &Step<'_>,
+    facts: &mut StepFacts,
+) -> Result<(), AllocError>
+    ensures kept { facts.new ≡ facts.old }
+    ensures unrefused { OnOk result (S.refused supply.new ≡ S.refused supply.old) }
+    ensures memory { OnErr result (S.refused supply.new ≡ true) }
 {
-    let Reply::Down {
-        signal: Down::Got { attention },
-        taken: true,
-        ..
-    } = step.reply().0
+    let (
+        Reply::Down {
+            signal: Down::Got { attention },
+            taken: true,
+            ..
+        },
+        Some(subchannel),
+    ) = (step.reply().0, step.subchannel)
     else {
-        return None;
+        return Ok(());
     };
-    let setup = step.parties.subchannels.as_slice().get(step.subchannel?)?;
-    Some(Fact::AttentionTaken {
-        unit: usize::from(setup.unit),
-        attention: *attention,
-    })
+    match step.parties.subchannels.as_slice().get(subchannel) {
+        Some(setup) => push_attention(supply, usize::from(setup.unit), *attention, facts),
+        None => Ok(()),
+    }
+}
+
+#[inline(never)]
+fn push_attention<S: Supply>(
+    supply: &mut S,
+    unit: usize,
+    attention: u64,
+    facts: &mut StepFacts,
+) -> Result<(), AllocError>
+    ensures kept { facts.new ≡ facts.old }
+    ensures unrefused { OnOk result (S.refused supply.new ≡ S.refused supply.old) }
+    ensures memory { OnErr result (S.refused supply.new ≡ true) }
+{
+    facts.push(supply, Fact::AttentionTaken { unit, attention })
 }
 
 /// The bytes of a write that a device absorbed: so many of those that it had.
@@ -171,21 +231,61 @@ fn asks(step: &Step<'_>, unit: usize) -> bool {
 }
 
 /// What a device did before its unit sent a signal: bytes that moved, or nothing yet; or that it was restarted.
-pub(crate) fn first_fact(step: &Step<'_>) -> Option<Fact>
-    ensures { IfSome result (λ fact. is_other fact ≡ true) }
+pub(crate) fn add_first_acts<S: Supply>(
+    supply: &mut S,
+    step: &Step<'_>,
+    facts: &mut StepFacts,
+) -> Result<(), AllocError>
+    ensures kept { facts.new ≡ facts.old }
+    ensures unrefused { OnOk result (S.refused supply.new ≡ S.refused supply.old) }
+    ensures memory { OnErr result (S.refused supply.new ≡ true) }
 {
-    let (unit, act) = match step.event() {
+    match step.event() {
         (Event::Report { unit, report }, bytes) => {
-            let unit = *unit as usize;
-            (unit, first_act(step, unit, (&report.answer, bytes))?)
+            add_first_act(supply, step, *unit as usize, (&report.answer, bytes), facts)
         }
-        (Event::Restart { unit }, _) => (*unit as usize, DeviceAct::Restarted),
-        _ => return None,
-    };
-    Some(Fact::Device { unit, act })
+        (Event::Restart { unit }, _) => {
+            push_act(supply, *unit as usize, DeviceAct::Restarted, facts)
+        }
+        _ => Ok(()),
+    }
+}
+
+/// A device did this.
+#[inline(never)]
+fn push_act<S: Supply>(
+    supply: &mut S,
+    unit: usize,
+    act: DeviceAct,
+    facts: &mut StepFacts,
+) -> Result<(), AllocError>
+    ensures kept { facts.new ≡ facts.old }
+    ensures unrefused { OnOk result (S.refused supply.new ≡ S.refused supply.old) }
+    ensures memory { OnErr result (S.refused supply.new ≡ true) }
+{
+    facts.push(supply, Fact::Device { unit, act })
 }
 
 /// What a device answered before its unit sent a signal.
+#[inline(never)]
+fn add_first_act<S: Supply>(
+    supply: &mut S,
+    step: &Step<'_>,
+    unit: usize,
+    answer: (&DeviceAnswer<ChunkLength>, &[u8]),
+    facts: &mut StepFacts,
+) -> Result<(), AllocError>
+    requires { answer_length answer.0.now ≤ length answer.1.now }
+    ensures kept { facts.new ≡ facts.old }
+    ensures unrefused { OnOk result (S.refused supply.new ≡ S.refused supply.old) }
+    ensures memory { OnErr result (S.refused supply.new ≡ true) }
+{
+    match first_act(step, unit, answer) {
+        Some(act) => push_act(supply, unit, act, facts),
+        None => Ok(()),
+    }
+}
+
 fn first_act(
     step: &Step<'_>,
     unit: usize,
@@ -204,20 +304,49 @@ fn first_act(
 }
 
 /// What a device did as its unit sent a signal: it asks for the bytes of a write, or ended the command.
-pub(crate) fn last_fact(step: &Step<'_>) -> Option<Fact>
-    ensures { IfSome result (λ fact. is_other fact ≡ true) }
+pub(crate) fn add_last_acts<S: Supply>(
+    supply: &mut S,
+    step: &Step<'_>,
+    facts: &mut StepFacts,
+) -> Result<(), AllocError>
+    ensures kept { facts.new ≡ facts.old }
+    ensures unrefused { OnOk result (S.refused supply.new ≡ S.refused supply.old) }
+    ensures memory { OnErr result (S.refused supply.new ≡ true) }
 {
-    let Event::Report { unit, report } = step.event().0 else {
-        return None;
-    };
-    let unit = *unit as usize;
-    let act = match &report.answer {
-        DeviceAnswer::Begins if asks(step, unit) => DeviceAct::Asks,
-        DeviceAnswer::Ended { status, more } => DeviceAct::Ended {
-            status: *status,
-            more: *more,
-        },
-        _ => return None,
-    };
-    Some(Fact::Device { unit, act })
+    match step.event() {
+        (Event::Report { unit, report }, _) => {
+            add_last_act(supply, step, *unit as usize, &report.answer, facts)
+        }
+        _ => Ok(()),
+    }
+}
+
+/// What a device answered as its unit sent a signal.
+#[inline(never)]
+fn add_last_act<S: Supply>(
+    supply: &mut S,
+    step: &Step<'_>,
+    unit: usize,
+    answer: &DeviceAnswer<ChunkLength>,
+    facts: &mut StepFacts,
+) -> Result<(), AllocError>
+    ensures kept { facts.new ≡ facts.old }
+    ensures unrefused { OnOk result (S.refused supply.new ≡ S.refused supply.old) }
+    ensures memory { OnErr result (S.refused supply.new ≡ true) }
+{
+    match answer {
+        DeviceAnswer::Begins if asks(step, unit) => {
+            push_act(supply, unit, DeviceAct::Asks, facts)
+        }
+        DeviceAnswer::Ended { status, more } => push_act(
+            supply,
+            unit,
+            DeviceAct::Ended {
+                status: *status,
+                more: *more,
+            },
+            facts,
+        ),
+        _ => Ok(()),
+    }
 }

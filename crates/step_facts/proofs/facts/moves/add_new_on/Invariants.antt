@@ -1,6 +1,6 @@
 use Rattle.std.proofs.Common.{◌≡◌}
 use Rattle.step_facts.specs.Told.{OnlyMoved}
-use Rattle.step_facts.proofs.facts.wire_changes.add_wire.Given as goal
+use Rattle.step_facts.proofs.facts.moves.add_new_on.Given as goal
 
 abbrev pub invariant-loop-index : goal.invariant-loop-index
 invariant-loop-index g l = record {

@@ -1,5 +1,5 @@
 use Rattle.std.proofs.Common.{◌≡◌}
-use Rattle.step_facts.proofs.facts.topics.add_each.Given as goal
+use Rattle.step_facts.proofs.facts.channel_paths.add_paths.Given as goal
 
 abbrev pub invariant-loop-index : goal.invariant-loop-index
 invariant-loop-index g l = record {

@@ -1,9 +1,8 @@
 use Rattle.std.proofs.Common.{◌≡◌}
-use Rattle.step_facts.specs.Told.{OnlyMoved}
-use Rattle.step_facts.proofs.facts.wire_changes.add_wires.Given as goal
+use Rattle.step_facts.proofs.facts.subchannels.add_changes.Given as goal
 
 abbrev pub invariant-loop-subchannel : goal.invariant-loop-subchannel
 invariant-loop-subchannel g l = record {
-  only : OnlyMoved l.fn.facts l.facts;
+  kept : l.facts ≡ l.fn.facts;
   unrefused : g.S.Supply.refused l.supply ≡ g.S.Supply.refused l.fn.supply;
 }

@@ -1,9 +1,9 @@
 use Rattle.std.proofs.Common.{◌≡◌}
 use Rattle.step_facts.specs.Told.{OnlyMoved}
-use Rattle.step_facts.proofs.facts.wire_changes.add_wires_of.Given as goal
+use Rattle.step_facts.proofs.facts.losses.add_lost_of.Given as goal
 
-abbrev pub invariant-loop-number : goal.invariant-loop-number
-invariant-loop-number g l = record {
+abbrev pub invariant-loop-index : goal.invariant-loop-index
+invariant-loop-index g l = record {
   only : OnlyMoved l.fn.facts l.facts;
   unrefused : g.S.Supply.refused l.supply ≡ g.S.Supply.refused l.fn.supply;
 }
