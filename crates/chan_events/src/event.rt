@@ -1,12 +1,13 @@
 //! Events: what may happen to a channel subsystem, one at a time.
 
-ghost use Rattle.std.specs.Prelude.{◌≡◌, ◌≤◌, ◌++◌, ℕ, List, length};
+ghost use Rattle.std.specs.Prelude.{◌≡◌, ◌≤◌, ◌++◌, ⊤, ℕ, List, length};
 ghost use Rattle.chan_events.specs.Events as spec;
 ghost use Rattle.chan_events.specs.Instructions as instructions;
 
 use chan_model::chunk::{Chunk, ChunkLength};
 use chan_model::names::{Cpu, Side};
 use chan_model::report::{DeviceAnswer, KeptReport, Report};
+use std::alloc::AllocError;
 use storage_keys::key::Key;
 
 /// An I/O instruction (SA22-7832, chapter 14). `subchannel` is general register 1: the subsystem-identification word.
@@ -106,7 +107,7 @@ pub enum UnitAct {
 
 /// An event, over what stands for its bytes and for a report. `subchannel` is a subsystem-identification word, `path` the index
 /// of a path of that subchannel.
-#[derive(Clone, Copy, Drop)]
+#[derive(Copy, Drop)]
 pub enum Event<B = Chunk, R = Report> {
     /// Bytes are put into storage at an absolute address.
     Put {
@@ -180,6 +181,16 @@ pub enum Event<B = Chunk, R = Report> {
     },
     /// The channel subsystem is reset.
     SystemReset,
+}
+
+impl<B: Copy, R: Copy> Clone for Event<B, R> {
+    ghost is_clone = { λ x y. y ≡ x };
+
+    ghost is_infallible = { λ _. ⊤ };
+
+    fn clone(&self) -> Result<Self, AllocError> {
+        Ok(*self)
+    }
 }
 
 /// An event whose bytes stand elsewhere.

@@ -1,6 +1,6 @@
 //! Replies: what an accepted event answers.
 
-ghost use Rattle.std.specs.Prelude.{◌≡◌, ◌≤◌, ◌++◌, ℕ, List, length};
+ghost use Rattle.std.specs.Prelude.{◌≡◌, ◌≤◌, ◌++◌, ⊤, ℕ, List, length};
 ghost use Rattle.chan_events.specs.Replies as spec;
 ghost use Rattle.chan_events.specs.ReportWords as word_spec;
 ghost use Rattle.chan_events.specs.declared.reply.Reply.TheVariants as reply_spec;
@@ -16,13 +16,14 @@ use chan_model::signal::{Down, KeptDown, KeptUp, OnPath, Up};
 use scsw_irb::code::IntCode;
 use scsw_irb::crw::Crw;
 use scsw_irb::scsw::Scsw;
+use std::alloc::AllocError;
 use std::convert::Infallible;
 
 /// How many bytes STORE CHANNEL PATH STATUS stores: one bit for each channel-path identifier.
 pub const PATH_STATUS_BYTES: usize = 32;
 
 /// What an accepted event answers, over what stands for bytes of storage, for a signal up and for a signal down.
-#[derive(Clone, Copy, Drop)]
+#[derive(Copy, Drop)]
 pub enum Reply<B = Chunk, U = Up, D = Down> {
     Done,
     /// The bytes of storage that were asked for.
@@ -80,6 +81,16 @@ pub enum Reply<B = Chunk, U = Up, D = Down> {
         taken: bool,
         sent: Option<OnPath<U>>,
     },
+}
+
+impl<B: Copy, U: Copy, D: Copy> Clone for Reply<B, U, D> {
+    ghost is_clone = { λ x y. y ≡ x };
+
+    ghost is_infallible = { λ _. ⊤ };
+
+    fn clone(&self) -> Result<Self, AllocError> {
+        Ok(*self)
+    }
 }
 
 /// An accepted event with its reply.

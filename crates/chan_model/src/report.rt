@@ -1,11 +1,12 @@
 //! What a device answers to the call that its unit made of it.
 
-ghost use Rattle.std.specs.Prelude.{◌≡◌, ◌≤◌, ◌++◌, ℕ, List, length};
+ghost use Rattle.std.specs.Prelude.{◌≡◌, ◌≤◌, ◌++◌, ⊤, ℕ, List, length};
 ghost use Rattle.chan_model.specs.Reports as spec;
 
 use crate::chunk::{Bytes, Chunk, ChunkLength};
 use crate::names::{CommandPath, Path, Side};
 use scsw_irb::status::DeviceStatus;
+use std::alloc::AllocError;
 
 /// What the device is asked for, over what stands for its bytes.
 #[derive(Drop)]
@@ -22,7 +23,7 @@ pub enum Call<B = Chunk> {
 }
 
 /// What the device answered, over what stands for its bytes.
-#[derive(Clone, Copy, PartialEq, Eq, Debug, Drop)]
+#[derive(Copy, PartialEq, Eq, Debug, Drop)]
 pub enum DeviceAnswer<B = Chunk> {
     /// The initial status of a command is empty: the bytes of a write are asked for, those of a read are to be supplied.
     Begins,
@@ -36,8 +37,18 @@ pub enum DeviceAnswer<B = Chunk> {
     Ended { status: DeviceStatus, more: bool },
 }
 
+impl<B: Copy> Clone for DeviceAnswer<B> {
+    ghost is_clone = { λ x y. y ≡ x };
+
+    ghost is_infallible = { λ _. ⊤ };
+
+    fn clone(&self) -> Result<Self, AllocError> {
+        Ok(*self)
+    }
+}
+
 /// An answer, with the command and the place that it is of.
-#[derive(Clone, Copy, PartialEq, Eq, Debug, Drop)]
+#[derive(Copy, PartialEq, Eq, Debug, Drop)]
 pub struct Report<A = DeviceAnswer> {
     pub side: Side,
     pub answer: A,
@@ -47,6 +58,16 @@ pub struct Report<A = DeviceAnswer> {
     pub command: u64,
     /// The number of the last chunk, as it stood when the device was called.
     pub sequence: u64,
+}
+
+impl<A: Copy> Clone for Report<A> {
+    ghost is_clone = { λ x y. y ≡ x };
+
+    ghost is_infallible = { λ _. ⊤ };
+
+    fn clone(&self) -> Result<Self, AllocError> {
+        Ok(*self)
+    }
 }
 
 /// A report whose bytes are lent.

@@ -1,23 +1,44 @@
 //! The signals between a subchannel and its unit (own).
 
-ghost use Rattle.std.specs.Prelude.{◌≡◌, None, Some, false, true};
+ghost use Rattle.std.specs.Prelude.{◌≡◌, ⊤, None, Some, false, true};
 
 use crate::chunk::{Chunk, ChunkLength};
 use crate::names::Path;
 use scsw_irb::status::DeviceStatus;
+use std::alloc::AllocError;
 
 /// A signal with the path that it goes by.
-#[derive(Clone, Copy, PartialEq, Eq, Debug, Drop)]
+#[derive(Copy, PartialEq, Eq, Debug, Drop)]
 pub struct OnPath<S> {
     pub path: Path,
     pub signal: S,
 }
 
+impl<S: Copy> Clone for OnPath<S> {
+    ghost is_clone = { λ x y. y ≡ x };
+
+    ghost is_infallible = { λ _. ⊤ };
+
+    fn clone(&self) -> Result<Self, AllocError> {
+        Ok(*self)
+    }
+}
+
 /// What came of a signal that was met: whether a state changed or a signal was sent, and the signal.
-#[derive(Clone, Copy, PartialEq, Eq, Debug, Drop)]
+#[derive(Copy, PartialEq, Eq, Debug, Drop)]
 pub struct Taken<S> {
     pub taken: bool,
     pub sent: Option<OnPath<S>>,
+}
+
+impl<S: Copy> Clone for Taken<S> {
+    ghost is_clone = { λ x y. y ≡ x };
+
+    ghost is_infallible = { λ _. ⊤ };
+
+    fn clone(&self) -> Result<Self, AllocError> {
+        Ok(*self)
+    }
 }
 
 /// A signal from the subsystem to a unit, over what stands for its bytes: a `Chunk` that owns them, or the `ChunkLength` of bytes
@@ -25,7 +46,7 @@ pub struct Taken<S> {
 ///
 /// `number` is the number of an offer, `connection` that of a connection, `command` that of a command of one program,
 /// from 1, and `sequence` that of a chunk of one command, from 1.
-#[derive(Clone, Copy, PartialEq, Eq, Debug, Drop)]
+#[derive(Copy, PartialEq, Eq, Debug, Drop)]
 pub enum Down<B = Chunk> {
     /// The program asks for the device.
     Select {
@@ -82,15 +103,35 @@ pub enum Down<B = Chunk> {
     },
 }
 
+impl<B: Copy> Clone for Down<B> {
+    ghost is_clone = { λ x y. y ≡ x };
+
+    ghost is_infallible = { λ _. ⊤ };
+
+    fn clone(&self) -> Result<Self, AllocError> {
+        Ok(*self)
+    }
+}
+
 /// What a Data signal brings: how many bytes of a write were absorbed, or the bytes of a read.
-#[derive(Clone, Copy, PartialEq, Eq, Debug, Drop)]
+#[derive(Copy, PartialEq, Eq, Debug, Drop)]
 pub enum Load<B = Chunk> {
     Absorbed(u16),
     Bytes(B),
 }
 
+impl<B: Copy> Clone for Load<B> {
+    ghost is_clone = { λ x y. y ≡ x };
+
+    ghost is_infallible = { λ _. ⊤ };
+
+    fn clone(&self) -> Result<Self, AllocError> {
+        Ok(*self)
+    }
+}
+
 /// A signal from a unit to the subsystem, with the numbers of `Down`, over what stands for the load of a Data.
-#[derive(Clone, Copy, PartialEq, Eq, Debug, Drop)]
+#[derive(Copy, PartialEq, Eq, Debug, Drop)]
 pub enum Up<L = Load> {
     /// The program holds the device.
     Accept {
@@ -142,6 +183,16 @@ pub enum Up<L = Load> {
         attention: u64,
         status: DeviceStatus,
     },
+}
+
+impl<L: Copy> Clone for Up<L> {
+    ghost is_clone = { λ x y. y ≡ x };
+
+    ghost is_infallible = { λ _. ⊤ };
+
+    fn clone(&self) -> Result<Self, AllocError> {
+        Ok(*self)
+    }
 }
 
 /// A signal down whose bytes stand elsewhere.

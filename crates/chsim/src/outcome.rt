@@ -6,7 +6,7 @@ ghost use Rattle.chsim.specs.Outcomes as spec;
 use script_runner::Ending;
 
 /// How the program ended.
-#[derive(Clone, Copy, Debug, PartialEq, Eq)]
+#[derive(Clone, Copy, PartialEq, Eq)]
 pub enum Outcome {
     /// A command ended so.
     Ended(Ending),

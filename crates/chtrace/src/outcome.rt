@@ -6,7 +6,7 @@ ghost use Rattle.chtrace.specs.Outcomes as spec;
 use trace_runs::TraceFault;
 
 /// How the program ended.
-#[derive(Clone, Copy, Debug, PartialEq, Eq)]
+#[derive(Clone, Copy, PartialEq, Eq)]
 pub enum Outcome {
     /// All was performed and written; `refused` says that some action was refused.
     Done { refused: bool },

@@ -14,7 +14,7 @@ use memory::{Allocator, FailingMemory, Supply};
 use std::alloc::{AllocError, Global};
 
 /// What the words ask for.
-#[derive(Clone, Copy, Debug, PartialEq, Eq)]
+#[derive(Clone, Copy, PartialEq, Eq)]
 pub enum Wanted {
     /// Perform a script's events.
     Run,
@@ -25,7 +25,7 @@ pub enum Wanted {
 }
 
 /// Why no command was found.
-#[derive(Debug, Drop)]
+#[derive(Drop)]
 pub enum Refused {
     /// The words name none: `clap`'s text, which is help where they ask for it and otherwise says
     /// what is wrong with them.

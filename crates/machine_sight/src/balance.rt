@@ -11,7 +11,7 @@ use std::alloc::AllocError;
 use step_records::record::{Fact, Moved, Record};
 
 /// What a move of a signal is to its wire.
-#[derive(Clone, Copy, Debug, PartialEq, Eq)]
+#[derive(Clone, Copy, PartialEq, Eq)]
 pub enum Course {
     /// The signal comes onto it.
     Onto,

@@ -16,7 +16,7 @@ use std::alloc::AllocError;
 use step_records::parties::{Parties, word_of};
 
 /// Why there is no sight.
-#[derive(Clone, Copy, Debug, PartialEq, Eq)]
+#[derive(Clone, Copy, PartialEq, Eq)]
 pub enum SightFault {
     /// A growth was refused.
     NoMemory,

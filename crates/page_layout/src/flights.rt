@@ -10,7 +10,7 @@ use step_records::record::{Fact, Moved, Record, Signal, Wire};
 use step_records::trace::Trace;
 
 /// What became of a signal, and in which row.
-#[derive(Clone, Copy, Debug, PartialEq, Eq)]
+#[derive(Clone, Copy, PartialEq, Eq)]
 pub enum Outcome {
     /// It still waits.
     Waits,

@@ -20,7 +20,7 @@ const GAP: u64 = 265;
 const SHARED_GAP: u64 = 290;
 
 /// Who has a lane.
-#[derive(Clone, Copy, Debug, PartialEq, Eq)]
+#[derive(Clone, Copy, PartialEq, Eq)]
 pub enum Party {
     Script,
     Subchannel(usize),
@@ -28,7 +28,7 @@ pub enum Party {
 }
 
 /// On which side of a lane its notes stand.
-#[derive(Clone, Copy, Debug, PartialEq, Eq)]
+#[derive(Clone, Copy, PartialEq, Eq)]
 pub enum NoteSide {
     Left,
     Right,

@@ -4,7 +4,7 @@ ghost use Rattle.std.specs.Prelude.{◌≡◌, ◌<◌, length};
 ghost use Rattle.page_text.specs.Marks as spec;
 
 /// An element of HTML or SVG.
-#[derive(Clone, Copy, Debug, PartialEq, Eq)]
+#[derive(Clone, Copy, PartialEq, Eq)]
 pub enum Tag {
     Html,
     Head,
@@ -40,7 +40,7 @@ pub enum Tag {
 }
 
 /// An attribute of an element.
-#[derive(Clone, Copy, Debug, PartialEq, Eq)]
+#[derive(Clone, Copy, PartialEq, Eq)]
 pub enum Attribute {
     Language,
     Charset,
@@ -73,7 +73,7 @@ pub enum Attribute {
 }
 
 /// A piece of markup.
-#[derive(Clone, Copy, Debug, PartialEq, Eq)]
+#[derive(Clone, Copy, PartialEq, Eq)]
 pub enum Mark {
     /// What a page begins with.
     Doctype,

@@ -30,7 +30,7 @@ use std::thread::Threads;
 use streams::{NoText, Sink, Source};
 
 /// How the program ended.
-#[derive(Clone, Copy, Debug, PartialEq, Eq)]
+#[derive(Clone, Copy, PartialEq, Eq)]
 pub enum Ending {
     /// The text could not be read; nothing was written.
     NotRead,

@@ -21,7 +21,7 @@ use script_text::{ActionResult, put_event_line_at_once, put_reply_line_at_once};
 use streams::Sink;
 
 /// What came of the line of an action.
-#[derive(Clone, Copy, Debug)]
+#[derive(Clone, Copy)]
 pub struct Written {
     /// It was written whole; otherwise the sink failed within it.
     pub whole: bool,
@@ -30,7 +30,7 @@ pub struct Written {
 }
 
 /// What came of the lines that were performed.
-#[derive(Clone, Copy, Debug)]
+#[derive(Clone, Copy)]
 pub struct PerformedLines {
     /// All of them were performed and written; otherwise the sink failed within the print of the last that was
     /// performed.

@@ -10,7 +10,7 @@ use chan_model::fault::Fault;
 use script_text::RaceCount;
 
 /// How many instructions answered each condition code, how many were accepted, and whether any was refused.
-#[derive(Clone, Copy, Debug)]
+#[derive(Clone, Copy)]
 pub struct Tally {
     pub zero: u64,
     pub one: u64,

@@ -9,7 +9,7 @@ pub const FIRST_BIT: u32 = 17;
 pub const LAST_BIT: u32 = 31;
 
 /// The functions (FC), the activities (AC) or the status (SC) of a subchannel.
-#[derive(Clone, Copy, Debug, PartialEq, Eq)]
+#[derive(Clone, Copy, PartialEq, Eq)]
 pub enum BitGroup {
     Function,
     Activity,
@@ -47,7 +47,7 @@ pub fn bit_name(bit: u32) -> &'static [u8] {
 }
 
 /// What the subsystem takes a device to be held by.
-#[derive(Clone, Copy, Debug, PartialEq, Eq)]
+#[derive(Clone, Copy, PartialEq, Eq)]
 pub enum HoldName {
     Offered,
     Connected,

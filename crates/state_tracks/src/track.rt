@@ -5,7 +5,7 @@ use step_records::record::{Fact, Moved, Owner, RequestChange, Wire};
 use zbits::flag;
 
 /// A bit or a state.
-#[derive(Clone, Copy, Debug, PartialEq, Eq)]
+#[derive(Clone, Copy, PartialEq, Eq)]
 pub enum Track {
     /// A bit of the first word of the subchannel-status word, counted from the left.
     Bit {

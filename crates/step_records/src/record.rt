@@ -148,7 +148,7 @@ pub enum Fact {
 }
 
 /// A wire: of the path of this index of a subchannel, down to the unit or up from it.
-#[derive(Clone, Copy, Debug, PartialEq, Eq)]
+#[derive(Clone, Copy, PartialEq, Eq)]
 pub struct Wire {
     pub subchannel: usize,
     pub path: Path,
@@ -156,7 +156,7 @@ pub struct Wire {
 }
 
 /// Which way a wire goes.
-#[derive(Clone, Copy, Debug, PartialEq, Eq)]
+#[derive(Clone, Copy, PartialEq, Eq)]
 pub enum Way {
     Down,
     Up,
@@ -170,7 +170,7 @@ pub enum Signal {
 }
 
 /// What became of a signal.
-#[derive(Clone, Copy, Debug, PartialEq, Eq)]
+#[derive(Clone, Copy, PartialEq, Eq)]
 pub enum Moved {
     /// It was put on the wire.
     Sent,
@@ -205,7 +205,7 @@ impl Moved {
 }
 
 /// A mask of the path-management-control word (SA22-7832, chapter 15).
-#[derive(Clone, Copy, Debug, PartialEq, Eq)]
+#[derive(Clone, Copy, PartialEq, Eq)]
 pub enum Mask {
     /// LPM: the paths that a program may use.
     Logical,
@@ -220,7 +220,7 @@ pub enum Mask {
 }
 
 /// How far a program is.
-#[derive(Clone, Copy, Debug, PartialEq, Eq)]
+#[derive(Clone, Copy, PartialEq, Eq)]
 pub enum ProgramStage {
     /// It was started, and waits to be begun; or it was resumed.
     Waits,
@@ -233,7 +233,7 @@ pub enum ProgramStage {
 }
 
 /// Which way bytes moved.
-#[derive(Clone, Copy, Debug, PartialEq, Eq)]
+#[derive(Clone, Copy, PartialEq, Eq)]
 pub enum Direction {
     /// From storage, for a device that writes.
     Fetched,
@@ -242,7 +242,7 @@ pub enum Direction {
 }
 
 /// What made status pending, as the status word tells it (SA22-7832, chapter 16).
-#[derive(Clone, Copy, Debug, PartialEq, Eq)]
+#[derive(Clone, Copy, PartialEq, Eq)]
 pub enum Cause {
     /// The clear function was performed.
     ClearDone,
@@ -265,7 +265,7 @@ pub enum Cause {
 }
 
 /// What became of a request for an I/O interruption.
-#[derive(Clone, Copy, Debug, PartialEq, Eq)]
+#[derive(Clone, Copy, PartialEq, Eq)]
 pub enum RequestChange {
     Posted,
     /// TEST PENDING INTERRUPTION took it out.
@@ -275,7 +275,7 @@ pub enum RequestChange {
 }
 
 /// What became of a channel report.
-#[derive(Clone, Copy, Debug, PartialEq, Eq)]
+#[derive(Clone, Copy, PartialEq, Eq)]
 pub enum ReportChange {
     /// It waits.
     Waits,
@@ -286,7 +286,7 @@ pub enum ReportChange {
 }
 
 /// Whom a unit is held by.
-#[derive(Clone, Copy, Debug, PartialEq, Eq)]
+#[derive(Clone, Copy, PartialEq, Eq)]
 pub struct Owner {
     /// The program that holds it.
     pub holder: Option<Holder>,
@@ -295,7 +295,7 @@ pub struct Owner {
 }
 
 /// The program that holds a unit: the number of its offer, and its subchannel.
-#[derive(Clone, Copy, Debug, PartialEq, Eq)]
+#[derive(Clone, Copy, PartialEq, Eq)]
 pub struct Holder {
     pub number: u64,
     pub subchannel: usize,
@@ -303,7 +303,7 @@ pub struct Holder {
 }
 
 /// Where a program is that holds a unit.
-#[derive(Clone, Copy, Debug, PartialEq, Eq)]
+#[derive(Clone, Copy, PartialEq, Eq)]
 pub enum Place {
     /// Connected on a path.
     On(Path),
@@ -314,7 +314,7 @@ pub enum Place {
 }
 
 /// A command that a unit has at hand: its number in its program, from 1, and its code.
-#[derive(Clone, Copy, Debug, PartialEq, Eq)]
+#[derive(Clone, Copy, PartialEq, Eq)]
 pub struct CommandAtHand {
     pub number: u64,
     pub code: u8,

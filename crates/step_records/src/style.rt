@@ -1,7 +1,7 @@
 //! How a view is drawn.
 
 /// How a view is drawn.
-#[derive(Clone, Copy, Debug, PartialEq, Eq)]
+#[derive(Clone, Copy, PartialEq, Eq)]
 pub struct Style {
     pub drawing: Drawing,
     pub widths: Widths,
@@ -9,7 +9,7 @@ pub struct Style {
 }
 
 /// Which characters arrows, bars and crosses are drawn with.
-#[derive(Clone, Copy, Debug, PartialEq, Eq)]
+#[derive(Clone, Copy, PartialEq, Eq)]
 pub enum Drawing {
     /// Arrows, bars and crosses of Unicode.
     Drawn,
@@ -18,7 +18,7 @@ pub enum Drawing {
 }
 
 /// Whether what is wider than its column is cut.
-#[derive(Clone, Copy, Debug, PartialEq, Eq)]
+#[derive(Clone, Copy, PartialEq, Eq)]
 pub enum Widths {
     /// It ends with an ellipsis.
     Cut,
@@ -27,7 +27,7 @@ pub enum Widths {
 }
 
 /// How the lines that only set storage are shown: `put`, `key` and `prefix`.
-#[derive(Clone, Copy, Debug, PartialEq, Eq)]
+#[derive(Clone, Copy, PartialEq, Eq)]
 pub enum StorageLines {
     /// Several in a row as one.
     Together,

@@ -8,7 +8,7 @@ use script_text::ActionResult;
 use step_records::record::{Fact, Moved, ProgramStage, Record, ReportChange, Way};
 
 /// A lane of a ladder.
-#[derive(Clone, Copy, Debug, PartialEq, Eq)]
+#[derive(Clone, Copy, PartialEq, Eq)]
 pub enum Lane {
     Subchannels,
     Wires,

@@ -10,7 +10,7 @@ use step_records::style::StorageLines;
 use streams::Sink;
 
 /// A line that only sets storage, by its first word.
-#[derive(Clone, Copy, Debug, PartialEq, Eq)]
+#[derive(Clone, Copy, PartialEq, Eq)]
 enum StorageWord {
     Put,
     Key,

@@ -29,7 +29,7 @@ use step_records::script_lines::ScriptLines;
 use step_records::trace::Trace;
 
 /// Why there is no trace.
-#[derive(Clone, Copy, Debug, PartialEq, Eq)]
+#[derive(Clone, Copy, PartialEq, Eq)]
 pub enum TraceFault {
     /// A growth was refused.
     NoMemory,

@@ -16,7 +16,7 @@ use script_rows::slots::{ActionSlot, KeptAction};
 const MOST_WORDS: usize = 8;
 
 /// What a line is about.
-#[derive(Clone, Copy, Debug, PartialEq, Eq)]
+#[derive(Clone, Copy, PartialEq, Eq)]
 pub(crate) enum Subject {
     /// No subchannel, unit or channel path by itself.
     All,

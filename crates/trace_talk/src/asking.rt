@@ -4,7 +4,7 @@ use arrayvec::ArrayVec;
 use script_rows::words::{number, number_up_to};
 
 /// What a line of a talk asks.
-#[derive(Clone, Copy, Debug, PartialEq, Eq)]
+#[derive(Clone, Copy, PartialEq, Eq)]
 pub(crate) enum Asked {
     /// A look at the machine.
     Question(Question),
@@ -17,7 +17,7 @@ pub(crate) enum Asked {
 }
 
 /// A look at the machine.
-#[derive(Clone, Copy, Debug, PartialEq, Eq)]
+#[derive(Clone, Copy, PartialEq, Eq)]
 pub(crate) enum Question {
     /// What is due, and the states of all.
     All,

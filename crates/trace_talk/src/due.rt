@@ -17,7 +17,7 @@ use subsystem::subsystem::Subsystem;
 use unit_driver::turns::word_of;
 
 /// A line of a script that is due.
-#[derive(Clone, Copy, Debug, PartialEq, Eq)]
+#[derive(Clone, Copy, PartialEq, Eq)]
 pub enum DueLine {
     /// The subsystem has something to do for a subchannel.
     Choose { subchannel: u32 },

@@ -6,7 +6,7 @@ use std::io::BufRead;
 use trace_runs::TraceFault;
 
 /// What came.
-#[derive(Clone, Copy, Debug, PartialEq, Eq)]
+#[derive(Clone, Copy, PartialEq, Eq)]
 pub(crate) enum Came {
     /// A line that was performed before.
     Kept,

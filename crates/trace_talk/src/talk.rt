@@ -26,7 +26,7 @@ use trace_runs::TraceFault;
 use trace_runs::tracer::Tracer;
 
 /// What a talk came to.
-#[derive(Clone, Copy, Debug, PartialEq, Eq)]
+#[derive(Clone, Copy, PartialEq, Eq)]
 pub struct Talked {
     /// All answers were written; otherwise the sink failed.
     pub whole: bool,
@@ -39,7 +39,7 @@ pub struct Talked {
 }
 
 /// How a part of a talk ended.
-#[derive(Clone, Copy, Debug, PartialEq, Eq)]
+#[derive(Clone, Copy, PartialEq, Eq)]
 pub(crate) enum Turn {
     /// A line was taken back: all that were kept are performed again.
     Back,
@@ -48,7 +48,7 @@ pub(crate) enum Turn {
 }
 
 /// What becomes of a line.
-#[derive(Clone, Copy, Debug, PartialEq, Eq)]
+#[derive(Clone, Copy, PartialEq, Eq)]
 pub(crate) enum Heard {
     /// It was answered.
     Answered,

@@ -21,7 +21,7 @@ use trace_runs::TraceFault;
 use trace_runs::tracer::{Stepped, Tracer};
 
 /// What came of the lines that were performed.
-#[derive(Clone, Copy, Debug, PartialEq, Eq)]
+#[derive(Clone, Copy, PartialEq, Eq)]
 pub struct Written {
     /// All was written; otherwise the sink failed.
     pub whole: bool,

@@ -12,7 +12,7 @@ use step_records::style::{Drawing, StorageLines, Style, Widths};
 use trace_selection::Selection;
 
 /// A view.
-#[derive(Clone, Copy, Debug, PartialEq, Eq)]
+#[derive(Clone, Copy, PartialEq, Eq)]
 pub enum View {
     Explain,
     Ladder,
@@ -36,7 +36,7 @@ pub struct Asked {
 }
 
 /// Why nothing is shown.
-#[derive(Debug, Drop)]
+#[derive(Drop)]
 pub enum Refused {
     /// The words ask for help or for the version, which this text is.
     Told(String),

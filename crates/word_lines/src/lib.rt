@@ -14,7 +14,7 @@ use crate::layout::put_block;
 use streams::Sink;
 
 /// How the decoding of lines ended.
-#[derive(Clone, Copy, Debug, PartialEq, Eq)]
+#[derive(Clone, Copy, PartialEq, Eq)]
 pub enum WordsEnd {
     /// Each line has a block.
     Decoded,
