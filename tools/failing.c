@@ -1,20 +1,25 @@
 /* Lets calls of the system fail, for tools/failing: preloaded into a program, it has standard input give, and standard output take, at
- * most so many bytes a call, lets one of their calls fail, and refuses the program requests for memory. As the program ends it
- * writes how many there were of each to a file.
+ * most so many bytes a call, interrupts each of their calls once, lets one of them fail, and refuses the program requests for memory.
+ * As the program ends it writes how many there were of each to a file, how many threads were made, and how many of them there were at once.
  *
- *     FAILING_MOST      how many bytes a call gives or takes at most
- *     FAILING_READ      the number of the read that fails, from 1; those that follow would not
- *     FAILING_WRITE     the same of a write
- *     FAILING_MEMORY    the number of the first request that is refused
- *     FAILING_REQUESTS  how many are refused then; where nothing is said, all that follow
- *     FAILING_COUNTS    the file: reads, writes, requests, and how many requests were refused
+ *     FAILING_MOST         how many bytes a call gives or takes at most
+ *     FAILING_READ         the number of the read that fails, from 1; those that follow would not
+ *     FAILING_WRITE        the same of a write
+ *     FAILING_INTERRUPTED  1: each read and each write is interrupted before it gives or takes anything, and not counted
+ *     FAILING_MEMORY       the number of the first request that is refused
+ *     FAILING_REQUESTS     how many are refused then; where nothing is said, all that follow
+ *     FAILING_COUNTS       the file: reads, writes, requests, how many requests were refused, threads that were made, and at
+ *                          once, interruptions
  *
  * Requests are those that the program's own code makes: what the C library asks for itself is granted. It prints nothing.
  */
 #define _GNU_SOURCE
+#include <dlfcn.h>
 #include <errno.h>
 #include <fcntl.h>
 #include <link.h>
+#include <pthread.h>
+#include <stdatomic.h>
 #include <stdint.h>
 #include <stdio.h>
 #include <stdlib.h>
@@ -29,7 +34,8 @@ void *__libc_memalign(size_t alignment, size_t size);
 
 static size_t most = SIZE_MAX;
 static unsigned long failing_read, failing_write, first_refused, most_refused = -1UL;
-static unsigned long reads, writes, requests, refused;
+static unsigned long interrupted, interruptions, reads, writes, requests, refused;
+static atomic_long threads, alive, together;
 static uintptr_t begins, ends;
 static int counts = -1;
 
@@ -64,6 +70,7 @@ __attribute__((constructor)) static void begin(void)
     most = number_in("FAILING_MOST", SIZE_MAX);
     failing_read = number_in("FAILING_READ", 0);
     failing_write = number_in("FAILING_WRITE", 0);
+    interrupted = number_in("FAILING_INTERRUPTED", 0);
     first_refused = number_in("FAILING_MEMORY", 0);
     most_refused = number_in("FAILING_REQUESTS", -1UL);
     if (file)
@@ -72,8 +79,9 @@ __attribute__((constructor)) static void begin(void)
 
 __attribute__((destructor)) static void end(void)
 {
-    char text[96];
-    int length = snprintf(text, sizeof text, "%lu %lu %lu %lu\n", reads, writes, requests, refused);
+    char text[128];
+    int length = snprintf(text, sizeof text, "%lu %lu %lu %lu %ld %ld %lu\n", reads, writes, requests, refused, threads, together,
+                          interruptions);
     if (counts >= 0 && length > 0)
         syscall(SYS_write, counts, text, (size_t)length);
     counts = -1;
@@ -87,10 +95,24 @@ void _exit(int status)
         syscall(SYS_exit_group, status);
 }
 
+/* Whether this call is interrupted: the one after it is not. */
+static int is_interrupted(void)
+{
+    static int last;
+    last = interrupted && !last;
+    if (last) {
+        interruptions++;
+        errno = EINTR;
+    }
+    return last;
+}
+
 ssize_t read(int file, void *bytes, size_t length)
 {
     if (file != STDIN_FILENO)
         return syscall(SYS_read, file, bytes, length);
+    if (is_interrupted())
+        return -1;
     if (++reads == failing_read) {
         errno = EIO;
         return -1;
@@ -102,6 +124,8 @@ ssize_t write(int file, const void *bytes, size_t length)
 {
     if (file != STDOUT_FILENO)
         return syscall(SYS_write, file, bytes, length);
+    if (is_interrupted())
+        return -1;
     if (++writes == failing_write) {
         errno = EIO;
         return -1;
@@ -175,4 +199,26 @@ int posix_memalign(void **made, size_t alignment, size_t size)
         return ENOMEM;
     *made = __libc_memalign(alignment, size);
     return *made ? 0 : ENOMEM;
+}
+
+int pthread_create(pthread_t *made, const pthread_attr_t *how, void *(*work)(void *), void *with)
+{
+    int (*create)(pthread_t *, const pthread_attr_t *, void *(*)(void *), void *) = dlsym(RTLD_NEXT, "pthread_create");
+    int failed = create(made, how, work, with);
+    if (!failed) {
+        long now = ++alive, most = together;
+        threads++;
+        while (now > most && !atomic_compare_exchange_weak(&together, &most, now))
+            ;
+    }
+    return failed;
+}
+
+int pthread_join(pthread_t thread, void **came)
+{
+    int (*join)(pthread_t, void **) = dlsym(RTLD_NEXT, "pthread_join");
+    int failed = join(thread, came);
+    if (!failed)
+        alive--;
+    return failed;
 }

@@ -197,7 +197,7 @@ def small_programs(bench: Bench, compiler: str, kind: str) -> str:
     said.append(f"{number_in(looks, 'checks')} looks")
     recorded = bench.built(f"recorded-{compiler}-{kind}", [*flags(compiler, SANITIZERS[kind]), HERE / "recorded.c", bench.archive])
     for name, (lines, otherwise) in RECORDED.items():
-        came = bench.run([recorded, bench.top / "crates/recorded_runs/data" / name], status=1 if otherwise else 0)
+        came = bench.run([recorded, bench.top / "tests/recorded" / name], status=1 if otherwise else 0)
         must_be(came, {"lines": lines, "otherwise": otherwise})
         said.append(f"{name} {lines} lines, {otherwise} otherwise")
     for name in ("first_write", "emulator"):

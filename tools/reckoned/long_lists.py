@@ -1,4 +1,4 @@
-"""A run of crates/recorded_runs, whose lines have what the device answers, so that more bytes are read than a device of
+"""A run beside the recorded ones, whose lines have what the device answers, so that more bytes are read than a device of
 a script has: by lists of which four words are used. `python3 -m reckoned.long_lists` writes it, in tools."""
 from pathlib import Path
 from typing import List, NamedTuple, Optional
@@ -6,7 +6,7 @@ from typing import List, NamedTuple, Optional
 from reckoned.lists import LIST, LONG, LONG_BY_2K, PROGRAM, SHORT, Piece, Storage, WordList
 from reckoned.programs import OFFERED, RELEASED, WITHOUT, Step, down, tested, up
 
-RUN = Path(__file__).resolve().parent.parent.parent / "crates/recorded_runs/data/long-lists.run"
+RUN = Path(__file__).resolve().parent.parent.parent / "tests/recorded/long-lists.run"
 # A chunk ends with its piece, and has at most so many bytes.
 CHUNK = 256
 # Lists of which four words are used, each with how many bytes are read by it.
@@ -108,7 +108,7 @@ class Stored(NamedTuple):
 
 
 def stored():
-    """The run is stored as it is reckoned here; rt ci performs it, with the other runs of recorded_runs."""
+    """The run is stored as it is reckoned here; host/tests performs it, with the recorded ones."""
     yield Stored(RUN, whole())
 
 

@@ -3,11 +3,9 @@
 mod crowd_tests;
 mod crowds;
 mod gate_tests;
-mod growths_tests;
 mod idle_tests;
 mod looking_tests;
 mod machines;
-mod race_tests;
 mod racers;
 mod replaying;
 mod scenarios;

@@ -58,12 +58,12 @@ pub turned_idle : (word : ℕ) (a b : Moment) → Enters a (event.Choose word) (
 turned_idle word a b h = (1, omega arith, goes_once a b (event.Choose word) reply.Idle h, (still_kept a.subsystem.keeping a.subsystem.kept, h.kept))
 
 pub turned_refused : (word : ℕ) (a b : Moment) (e : Event) (f : HostFault) → Enters a e (Err f) b → Turned word 1 (Refused f) a b
-turned_refused word a b e f h = (0, omega arith, goes_nowhere a b (as_before a b e f h))
+turned_refused word a b e f h = (0, omega arith, goes_nowhere a b (as_before a b e f h), (a, e, h))
 
 pub turned_then : (word m n : ℕ) (t : Turn) (a b c : Moment) → GoesOn m a b → Turned word n t b c → Turned word (m + n) t a c
 turned_then word m n Moved a b c h k = goes_then m n a b c h k
 turned_then word m n Quiet a b c h k = (m + k.0, omega (arith, k.1), goes_then m k.0 a b c h k.2, k.3)
-turned_then word m n (Refused f) a b c h k = (m + k.0, omega (arith, k.1), goes_then m k.0 a b c h k.2)
+turned_then word m n (Refused f) a b c h k = (m + k.0, omega (arith, k.1), goes_then m k.0 a b c h k.2, k.3)
 
 pub turned_later : (word n : ℕ) (t : Turn) (a b c : Moment) → IsAsBefore a b → Turned word n t b c → Turned word n t a c
 turned_later word n t a b c h k =
@@ -77,4 +77,4 @@ pub quiet_within : (word m n : ℕ) (a b c : Moment) → m < n → GoesOn m a b 
 quiet_within word m n a b c lt h k = (m + k.0, omega (arith, lt, k.1), goes_then m k.0 a b c h k.2, k.3)
 
 pub refused_within : (word m n : ℕ) (f : HostFault) (a b c : Moment) → m < n → GoesOn m a b → Turned word 1 (Refused f) b c → Turned word n (Refused f) a c
-refused_within word m n f a b c lt h k = (m + k.0, omega (arith, lt, k.1), goes_then m k.0 a b c h k.2)
+refused_within word m n f a b c lt h k = (m + k.0, omega (arith, lt, k.1), goes_then m k.0 a b c h k.2, k.3)

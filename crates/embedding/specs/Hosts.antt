@@ -1,5 +1,5 @@
 -- What a host has beside its guest's storage, what its calls do to both, and what a refusal means to a CPU.
-use Rattle.std.specs.Prelude.{◌≡◌, ◌≤◌, ◌+◌, ℕ, List, [], ◌∷◌, ◌++◌, length, Option, None, Some, Result}
+use Rattle.std.specs.Prelude.{◌≡◌, ◌≤◌, ◌+◌, ℕ, List, [], ◌∷◌, ◌++◌, length, Option, None, Some, Result, Err}
 use Rattle.storage_keys.specs.Storage.{Contents}
 use Rattle.storage_keys.specs.declared.StorageFault.TheVariants.{Addressing, Protection, Specification}
 use Rattle.chan_model.specs.declared.fault.Fault.TheVariants.{Storage, Operand}
@@ -64,11 +64,15 @@ pub record GoesOn (count : ℕ) (old new : Moment) : Type 0 where
 abbrev pub EndsIdle : ℕ → Moment → Type 0
 EndsIdle word m = (entries : List Entry) × (m.subsystem.kept ≡ entries ++ record { event = event.Choose word; reply = reply.Idle } ∷ [])
 
+-- the last event was refused so
+abbrev pub EndsRefused : HostFault → Moment → Type 0
+EndsRefused f m = (before : Moment) × (e : Event) × Enters before e (Err f) m
+
 -- What turns came to: so many events, and more may be due; or fewer or as many, where nothing was due or an event was refused.
 abbrev pub Turned : ℕ → ℕ → Turn → Moment → Moment → Type 0
 Turned word most Moved old new = GoesOn most old new
 Turned word most Quiet old new = (count : ℕ) × (count ≤ most) × GoesOn count old new × EndsIdle word new
-Turned word most (Refused f) old new = (count : ℕ) × (count ≤ most) × GoesOn count old new
+Turned word most (Refused f) old new = (count : ℕ) × (count ≤ most) × GoesOn count old new × EndsRefused f new
 
 -- the code of the program interruption that an instruction ends with where it is refused so (SA22-7832, chapter 6): protection,
 -- addressing, specification, operand

@@ -13,9 +13,9 @@ use Rattle.step_records.specs.Lines.{line_of}
 use Rattle.record_text.specs.Numbers.{hexadecimal}
 use Rattle.record_text.specs.Names.{subchannel_text}
 use Rattle.trace_driver.specs.declared.driver.Unseen.{Unseen}
-use Rattle.trace_driver.specs.declared.instruction.CpuAct.{CpuAct}
-use Rattle.trace_driver.specs.Instructions.{act_of}
-use Rattle.trace_driver.specs.Seen.{outcome_seen}
+use Rattle.seen_answers.specs.declared.instruction.CpuAct.{CpuAct}
+use Rattle.seen_answers.specs.Instructions.{act_of}
+use Rattle.seen_answers.specs.Seen.{outcome_seen}
 use Rattle.trace_driver.specs.Visible.{is_visible}
 
 -- an ellipsis, and a bolt, in UTF-8

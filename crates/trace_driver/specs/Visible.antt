@@ -7,7 +7,7 @@ use Rattle.step_records.specs.declared.record.Fact.TheVariants as fact
 use Rattle.step_records.specs.declared.record.RequestChange.TheVariants.{Posted}
 use Rattle.step_records.specs.declared.record.ReportChange.TheVariants.{Waits}
 use Rattle.step_records.specs.Lines.{line_of}
-use Rattle.trace_driver.specs.Instructions.{act_of}
+use Rattle.seen_answers.specs.Instructions.{act_of}
 
 -- the answer to an instruction, a request for an interruption that is posted, and a channel report that waits
 abbrev pub is_seen : List ℕ → Fact → Bool

@@ -3,11 +3,9 @@
 ghost use Rattle.std.specs.Prelude.{◌≡◌, ◌<◌, ◌^◌, ◌++◌, ◌∷◌, [], decimal};
 ghost use Rattle.streams.specs.Sinks.{Puts};
 ghost use Rattle.trace_driver.specs.Driver as spec;
-ghost use Rattle.trace_driver.specs.Seen.{outcome_seen};
+ghost use Rattle.seen_answers.specs.Seen.{outcome_seen};
 ghost use Rattle.trace_driver.specs.Visible as visible_spec;
 
-use crate::instruction::{CpuAct, act_of};
-use crate::seen_answer::put_seen;
 use crate::visible::is_visible;
 use chan_model::fault::Fault;
 use itoa::Buffer;
@@ -15,6 +13,8 @@ use record_text::fields::put_named;
 use record_text::names::put_subchannel;
 use record_text::number::{put_blanks, put_decimal};
 use script_text::ActionResult;
+use seen_answers::instruction::{CpuAct, act_of};
+use seen_answers::put_seen;
 use step_records::parties::Parties;
 use step_records::record::{Fact, Record};
 use step_records::style::{Drawing, Style};

@@ -2,9 +2,6 @@
 #![tactic(auto)]
 
 pub mod driver;
-pub mod instruction;
-mod seen_answer;
-mod seen_words;
 pub mod visible;
 
 pub use crate::driver::put_driver;

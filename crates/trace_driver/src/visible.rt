@@ -3,7 +3,7 @@
 ghost use Rattle.std.specs.Prelude.{◌≡◌};
 ghost use Rattle.trace_driver.specs.Visible as spec;
 
-use crate::instruction::act_of;
+use seen_answers::instruction::act_of;
 use step_records::record::{Fact, Record, ReportChange, RequestChange};
 use step_records::script_lines::ScriptLines;
 

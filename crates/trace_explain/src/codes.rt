@@ -2,10 +2,10 @@
 
 use chan_events::reply::Reply;
 use record_text::codes::code_of;
+use seen_answers::instruction::{CpuAct, act_of};
 use step_records::parties::Parties;
 use step_records::record::Fact;
 use streams::Sink;
-use trace_driver::instruction::{CpuAct, act_of};
 use word_names::{Found, put_code_words};
 
 /// What an instruction found of its subchannel, by the fact that tells it; None where the fact tells something else.

@@ -9,7 +9,7 @@ use word_names::{
 use zbits::field;
 
 /// How far the words stand in.
-#[derive(Clone, Copy, Debug, PartialEq, Eq)]
+#[derive(Clone, Copy, PartialEq, Eq)]
 pub(crate) enum Indent {
     Four,
     Six,

@@ -50,7 +50,7 @@ fn stores(alloc: Global, count: usize) -> Result<Vec<AnyDevice>, AllocError> {
 }
 
 /// One racer more, with this seat.
-pub fn hold<J: MachineBrand>(racers: &mut Vec<Racer<J>>, seat: Seat<J>, task: Task) -> bool
+fn hold<J: MachineBrand>(racers: &mut Vec<Racer<J>>, seat: Seat<J>, task: Task) -> bool
     requires { seat.value.owed ≡ None }
 {
     let racer = Racer {

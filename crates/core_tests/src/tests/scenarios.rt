@@ -1,14 +1,12 @@
 //! What the tests do, each with a machine of its own that nothing happened to.
 
-ghost use Rattle.std.specs.Prelude.{◌≡◌, []};
-ghost use Rattle.machine_model.specs.Setups.{IsSetUp};
+ghost use Rattle.std.specs.Prelude.{◌≡◌};
 ghost use Rattle.machine_model.specs.State.{opening_of};
 ghost use Rattle.subsystem.specs.Keeping.{all_serials};
 ghost use Rattle.glance_directory.specs.Directory.{directory_of};
 
 use crate::tests::crowd_tests::{answered, are_enough, begins_crowd, crowds, has_been_disturbed};
 use crate::tests::gate_tests::{begins_both, meets};
-use crate::tests::growths_tests::{STARVED, granting, grows, starves};
 use crate::tests::idle_tests::{are_beside, begins_idle, idles};
 use crate::tests::looking_tests::{begins_looks, has_made, looks};
 use crate::tests::machines::{apart, config_of};
@@ -18,7 +16,7 @@ use crate::tests::seats_tests::{answers, fills, leaves_out, sees};
 use crate::tests::stale_tests::{begins_late, comes_late, has_dropped, is_refused};
 use crate::tests::workers_tests::{begins_work, has_roamed, roams};
 use channel_config::config::Config;
-use core_lock::locked::{Core, NotMade, Seat, audit};
+use core_lock::locked::{Core, Seat, audit};
 use core_lock::naming::MachineBrand;
 use core_lock::parts::Parts;
 use machine_lock::locked_machine::Machine;
@@ -50,10 +48,6 @@ pub enum Scenario {
     Roams,
     /// Many threads enter many events.
     Crowds,
-    /// Requests for memory are refused.
-    Grows,
-    /// The same of many entries.
-    Starves,
     /// A CPU executes beside a worker that has nothing to do.
     Idles,
 }
@@ -66,8 +60,6 @@ pub fn setting(alloc: Global, scenario: Scenario) -> Config {
         | Scenario::LeavesOut
         | Scenario::Fills
         | Scenario::Looks
-        | Scenario::Grows
-        | Scenario::Starves
         | Scenario::Idles
         | Scenario::ComesLate => config_of(alloc, 1, &[0x10]),
         Scenario::Meets => apart(alloc, 2),
@@ -110,8 +102,6 @@ fn enters<J: MachineBrand>(
         Scenario::Looks => begins_looks(core, first, racers),
         Scenario::Roams => begins_work(alloc, core, first, racers),
         Scenario::Crowds => begins_crowd(alloc, core, first, racers),
-        Scenario::Grows => grows(core, first, racers),
-        Scenario::Starves => starves(core, first),
         Scenario::Idles => begins_idle(core, racers),
     }
 }
@@ -201,7 +191,6 @@ fn is_shown<J: MachineBrand>(
         && match scenario {
             Scenario::Roams => has_roamed(&history),
             Scenario::ComesLate => has_dropped(&history),
-            Scenario::Starves => replays(alloc, setting(alloc, scenario), &history),
             Scenario::Crowds => {
                 has_been_disturbed(&history) && replays(alloc, setting(alloc, scenario), &history)
             }
@@ -216,8 +205,6 @@ fn are_due(scenario: Scenario, answered: u64, entries: Option<u64>) -> bool {
         Scenario::Answers => entries == Some(1),
         Scenario::LeavesOut => entries.is_none(),
         Scenario::Fills => entries == Some(0),
-        Scenario::Grows => entries == Some(2),
-        Scenario::Starves => entries == Some(STARVED),
         Scenario::Meets | Scenario::Roams | Scenario::ComesLate => entries.is_some(),
         Scenario::Looks => has_made(entries),
         Scenario::Crowds => are_enough(answered, entries),
@@ -270,32 +257,8 @@ fn tell<J: MachineBrand + Send + Sync, R: Threads + Wait + Sync>(
     ends(alloc, machine.into_core(stock), acted, scenario)
 }
 
-/// The same, on a core that is made of what was handed back, where one request is granted.
+/// The same, on a core of this configuration that is made with these parts.
 fn make_and_tell<J: MachineBrand + Send + Sync, R: Threads + Wait + Sync>(
-    rt: &R,
-    alloc: Global,
-    given: NotMade<Rotating>,
-    scenario: Scenario,
-) -> bool
-    requires fresh { given.subsystem.history ≡ [] }
-    requires named { given.parts.name ≡ J.name }
-    requires set_up { IsSetUp J.setup given.subsystem.state }
-    requires directory { given.parts.name.directory ≡ directory_of given.subsystem.state }
-    requires serials { given.parts.serials ≡ all_serials given.subsystem.state }
-{
-    let NotMade { subsystem, parts } = given;
-    let mut supply = granting(1);
-    match Core::<J, Rotating>::new_with(alloc, &mut supply, subsystem, parts) {
-        Ok(core) => {
-            let told = tell(rt, alloc, core, scenario);
-            told && !supply.refused
-        }
-        Err(_) => false,
-    }
-}
-
-/// The one request of a core is refused first, which hands back what it was to be made of.
-fn refuse_and_tell<J: MachineBrand + Send + Sync, R: Threads + Wait + Sync>(
     rt: &R,
     alloc: Global,
     config: Config,
@@ -310,13 +273,9 @@ fn refuse_and_tell<J: MachineBrand + Send + Sync, R: Threads + Wait + Sync>(
     let Ok(subsystem) = Subsystem::new(alloc, config, Rotating) else {
         return false;
     };
-    let mut supply = granting(0);
-    match Core::<J, Rotating>::new_with(alloc, &mut supply, subsystem, parts) {
-        Ok(_) => false,
-        Err(given) => {
-            let told = make_and_tell::<J, R>(rt, alloc, given, scenario);
-            supply.refused && told
-        }
+    match Core::<J, Rotating>::new(alloc, subsystem, parts) {
+        Ok(core) => tell(rt, alloc, core, scenario),
+        Err(_) => false,
     }
 }
 
@@ -326,5 +285,5 @@ pub fn goes<R: Threads + Wait + Sync>(rt: &R, alloc: Global, scenario: Scenario)
     let Ok(parts) = Parts::new(alloc, &config) else {
         return false;
     };
-    refuse_and_tell::<Brand, R>(rt, alloc, config, parts, scenario)
+    make_and_tell::<Brand, R>(rt, alloc, config, parts, scenario)
 }

@@ -1,8 +1,8 @@
-//! The room for which reading a script asks, and many lines. What scripts ask for, and in which line and by which rule a text is none,
-//! `tools/scenes` and `tools/stored` show.
+//! The room for which reading a script asks, and many lines. What scripts ask for, and in which line and by which rule a text is none, `tools/scenes` and
+//! `tools/stored` show, and what comes of room that is refused, `tools/failing`.
 
-use memory::{FailingMemory, Supply};
-use script::{Script, ScriptBad};
+use memory::Supply;
+use script::Script;
 use std::alloc::{AllocError, Global};
 
 /// A text that sets up storage, and has then this part so many times.
@@ -13,40 +13,6 @@ fn text_of(alloc: Global, count: usize, part: &[u8]) -> Vec<u8> {
         let _ = text.extend_from_slice(part);
     }
     text
-}
-
-/// Every growth that reading meets: of lines, words, numbers, paths, units, subchannels and actions.
-const GROWING: &[u8] = b"storage 10\n\
-path 10\n\
-path FF\n\
-unit 0 block\n\
-unit 1 block\n\
-share 0 1\n\
-sub 0 0100 0 10 FF\n\
-put 500 C1\n\
-glance 0";
-
-/// How many growths reading makes: each is refused in turn, which is told, and then the text is read. None where it is otherwise.
-fn growths(alloc: Global) -> Option<u64> {
-    for left in 0..1_000u64 {
-        let mut supply = FailingMemory {
-            left,
-            refused: false,
-        };
-        let bad = Script::read_with(alloc, &mut supply, false, GROWING).err();
-        match bad {
-            None => return Some(left),
-            Some(ScriptBad::NoMemory) => {}
-            _ => return None,
-        }
-    }
-    None
-}
-
-#[test]
-fn each_growth_is_refused_in_turn(rt: HostRuntime) {
-    let growths = growths(rt.alloc()).unwrap_or(0);
-    assert!(rt; growths > 20, "{growths}");
 }
 
 /// How many actions a text asks for; none where it is not read.

@@ -1,5 +1,5 @@
 use Rattle.chan_events.specs.declared.event.Event.TheVariants as event
-use Rattle.embedding.proofs.Going.{goes_once, turned_idle}
+use Rattle.embedding.proofs.Going.{goes_once, turned_idle, turned_refused}
 use Rattle.embedding.specs.Hosts.{moment}
 use Rattle.embedding.proofs.host.Host.choose.Goals as goal
 
@@ -17,3 +17,9 @@ returns-in-Ok g c =
           (event.Choose 0x10000) c.in-Ok.field-0 c.in-Ok.ensures.enters;
       lender = c.perform.ensures.lender;
     }
+
+pub returns-in-Err-clause-turned : goal.returns-in-Err-clause-turned
+returns-in-Err-clause-turned g c =
+    let held = g.M.MainStorage.contents in
+    turned_refused 0x10000 (moment c.args.self.now.subsystem (held c.args.storage.now)) (moment c.perform.new.self.subsystem (held c.perform.new.storage))
+    (event.Choose 0x10000) c.in-Err.fault c.in-Err.ensures.enters

@@ -1,0 +1,11 @@
+use Rattle.std.proofs.Common.{codes}
+use Rattle.script_text.proofs.Printing.{failed_so}
+use Rattle.streams.proofs.Sinking.{takes_then}
+use Rattle.seen_answers.specs.SeenWords as spec
+use Rattle.seen_answers.proofs.seen_words.put_title_control.Goals as goal
+
+pub returns-then-put : goal.returns-then-put
+returns-then-put g c = takes_then _ _ _ (codes "  ") (spec.control_text c.args.control) _ c.if-put.ensures c.put_control.ensures
+
+pub returns-else-put : goal.returns-else-put
+returns-else-put g c = failed_so _ _ (codes "  ") (spec.control_text c.args.control) _ c.if-put.false c.if-put.ensures

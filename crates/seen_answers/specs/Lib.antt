@@ -1,0 +1,3 @@
+pub mod Instructions
+pub mod SeenWords
+pub mod Seen
