@@ -200,6 +200,8 @@ def small_programs(bench: Bench, compiler: str, kind: str) -> str:
         came = bench.run([recorded, bench.top / "tests/recorded" / name], status=1 if otherwise else 0)
         must_be(came, {"lines": lines, "otherwise": otherwise})
         said.append(f"{name} {lines} lines, {otherwise} otherwise")
+    # A line of it has no answer.
+    bench.run([recorded, bench.top / "tests/recorded/unreadable.run"], status=2)
     for name in ("first_write", "emulator"):
         example = bench.built(
             f"{name}-{compiler}-{kind}", [*flags(compiler, SANITIZERS[kind]), HOST / f"examples/{name}.c", bench.archive]
