@@ -64,7 +64,7 @@ pub record GoesOn (count : ℕ) (old new : Moment) : Type 0 where
 abbrev pub EndsIdle : ℕ → Moment → Type 0
 EndsIdle word m = (entries : List Entry) × (m.subsystem.kept ≡ entries ++ record { event = event.Choose word; reply = reply.Idle } ∷ [])
 
--- the last event was refused so
+-- some event is refused so, which leaves this
 abbrev pub EndsRefused : HostFault → Moment → Type 0
 EndsRefused f m = (before : Moment) × (e : Event) × Enters before e (Err f) m
 
